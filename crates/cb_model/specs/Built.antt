@@ -1,0 +1,46 @@
+-- What is built so far of what the program prints: `verify` on files in the first form.
+use Rattle.std.specs.Prelude.{◌≡◌, ◌<◌, ◌≤◌, List, [], length, Option, Some, None, codes}
+use Rattle.cb_model.specs.declared.Outcome.{Outcome}
+use Rattle.cb_model.specs.Text.{Text, name_text, lines_text, IsPrefix}
+use Rattle.cb_model.specs.Circuits.{Module, flat, circuit_of, BySpec}
+use Rattle.cb_model.specs.FirstForm.{PairSpec, FirstForm, pair_exprs}
+use Rattle.cb_model.specs.Commands.{Command, Check, Run, Verify, Same, Make, Nodes, IsNumber, command_of, file_name}
+use Rattle.cb_model.specs.Refusals.{Refuses, usage, file_too_long, unbuilt}
+use Rattle.cb_model.specs.Verdicts.{Compared}
+use Rattle.cb_model.specs.Outside.{bytes_named}
+
+-- the lines and the outcome of `verify` over the bytes of its file; it may stop for nodes under any number
+pub data VerifySays (file name : Text) (nodes : Nodes) (lines : List Text) (outcome : Outcome) : Type 0 where
+  too_long : 4194304 < length file → Refuses file_too_long lines outcome → VerifySays file name nodes lines outcome
+  not_first : length file ≤ 4194304 → ((m : Module) (s : PairSpec) → FirstForm file name m s → ⊥) → Refuses unbuilt lines outcome → VerifySays file name nodes lines outcome
+  compared : (m : Module) (s : PairSpec) → length file ≤ 4194304 → FirstForm file name m s →
+      Compared (name_text name) (codes "verified ") m.inputs (circuit_of (flat [] m)) (BySpec (pair_exprs s)) (IsNumber nodes) lines outcome → VerifySays file name nodes lines outcome
+
+-- what a command says over the bytes of its file
+abbrev pub CommandSays : Option Command → Text → List Text → Outcome → Type 0
+CommandSays None file lines outcome = Refuses usage lines outcome
+CommandSays (Some (Verify f name nodes)) file lines outcome = VerifySays file name nodes lines outcome
+CommandSays (Some (Check f)) file lines outcome = Refuses unbuilt lines outcome
+CommandSays (Some (Run f r n)) file lines outcome = Refuses unbuilt lines outcome
+CommandSays (Some (Same f a b n)) file lines outcome = Refuses unbuilt lines outcome
+CommandSays (Some (Make b n)) file lines outcome = Refuses unbuilt lines outcome
+
+-- the text and the outcome belong to these words and this file
+pub record Output (words : List Text) (file text : Text) (outcome : Outcome) : Type 0 where
+  pub lines : List Text
+  pub says : CommandSays (command_of words) file lines outcome
+  pub is : text ≡ lines_text lines
+
+-- the text is nothing, or it begins the text of an output
+pub data OutputBegins (words : List Text) (file text : Text) : Type 0 where
+  nothing_yet : text ≡ [] → OutputBegins words file text
+  begins : (whole : Text) (outcome : Outcome) → Output words file whole outcome → IsPrefix text whole → OutputBegins words file text
+
+-- the bytes of the file that the words name
+abbrev pub bytes_or : List (Text × Text) → Option Text → Text
+bytes_or files None = []
+bytes_or files (Some x) = bytes_named files x
+
+-- the same by the words
+abbrev pub file_bytes : List (Text × Text) → List Text → Text
+file_bytes files words = bytes_or files (file_name (command_of words))

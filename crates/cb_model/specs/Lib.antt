@@ -1,0 +1,14 @@
+pub mod Bits
+pub mod Text
+pub mod Values
+pub mod Circuits
+pub mod Tokens
+pub mod Grammar
+pub mod FirstForm
+pub mod Outcomes
+pub mod Outside
+pub mod Commands
+pub mod Refusals
+pub mod Verdicts
+pub mod Built
+pub mod Top
