@@ -5,6 +5,10 @@ ghost use Rattle.std.specs.Prelude.{◌≡◌, ℕ, ◌<◌, ◌≤◌, List, []
 ghost use Rattle.cb_model.specs.Outside.{Rose, Wrote, bytes_named};
 ghost use Rattle.cb_host.specs.Host.{IfTold, HasLength, Loads, Reads};
 
+pub use memory::MemSink;
+
+mod memory;
+
 /// A read or a write failed.
 #[derive(Clone, Copy, PartialEq, Eq, Debug)]
 pub struct Failed;
