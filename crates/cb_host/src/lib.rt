@@ -5,7 +5,7 @@ ghost use Rattle.std.specs.Prelude.{◌≡◌, ℕ, ◌<◌, ◌≤◌, List, []
 ghost use Rattle.cb_model.specs.Outside.{Rose, Wrote, bytes_named};
 ghost use Rattle.cb_host.specs.Host.{IfTold, HasLength, Loads, Reads};
 
-pub use memory::MemSink;
+pub use memory::{MemFiles, MemSink};
 
 mod memory;
 
