@@ -5,9 +5,11 @@ ghost use Rattle.std.specs.Prelude.{◌≡◌, ℕ, ◌<◌, ◌≤◌, List, []
 ghost use Rattle.cb_model.specs.Outside.{Rose, Wrote, bytes_named};
 ghost use Rattle.cb_host.specs.Host.{IfTold, HasLength, Loads, Reads};
 
+pub use host::{HostFiles, HostInput, HostOutput};
 pub use memory::{MemFiles, MemSink, MemSource};
 pub use sure::{SureFiles, SureSink, SureSource};
 
+mod host;
 mod memory;
 mod sure;
 
