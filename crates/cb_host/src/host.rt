@@ -1,14 +1,14 @@
 //! Files, input and output of the system, over std's. Nothing is known of the bytes that these give or take: what stands
 //! here is the part of the program that its proofs trust.
 
-ghost use Rattle.std.specs.Prelude.{◌≡◌, ◌≤◌, [], None};
-ghost use Rattle.cb_host.specs.Host.{HasLength};
+ghost use Rattle.std.specs.Prelude.{◌≡◌, ◌<◌, ◌≤◌, [], None, length, drop, is_err, if◌then◌else◌, IfOk, OnErr};
+ghost use Rattle.cb_host.specs.Host.{HasLength, is_failed};
+ghost use Rattle.cb_host.specs.Fakes.{next_number};
 
 use crate::{Failed, Files, Load, Sink, Source};
-use std::fs;
 use std::io::{Read, Write};
 use std::marker::Model;
-use std::rt;
+use std::{fs, rt};
 
 // How many bytes one read asks the system for at most.
 const CHUNK: usize = 8192;
@@ -66,7 +66,13 @@ impl<R: rt::Files> Files for HostFiles<R> {
 
     ghost faults = { λ s. s };
 
-    fn load(&mut self, name: &str, into: &mut Vec<u8>, limit: u64) -> Load {
+    fn load(&mut self, name: &str, into: &mut Vec<u8>, limit: u64) -> Load
+        requires empty { into.old.items ≡ [] }
+        requires limit { limit ≤ 4294967295 }
+        ensures length { HasLength limit result into.new.items }
+        ensures counted { self.new ≡ (if is_failed result then next_number self.old else self.old) }
+        ensures count { self.old ≤ self.new }
+    {
         let load = match fs::open(&self.runtime, name) {
             Ok(mut file) => read_front(&mut file, into, limit as usize),
             Err(_) => Load::Failed,
@@ -107,7 +113,14 @@ impl<R: Read> Source for HostInput<R> {
 
     ghost faults = { λ s. s };
 
-    fn read(&mut self, buf: &mut [u8]) -> Result<usize, Failed> {
+    fn read(&mut self, buf: &mut [u8]) -> Result<usize, Failed>
+        requires room { 0 < length buf.old }
+        ensures within { IfOk result (λ n. n ≤ length buf.old) }
+        ensures rest { IfOk result (λ n. drop n buf.new ≡ drop n buf.old) }
+        ensures buffer_kept { OnErr result (buf.new ≡ buf.old) }
+        ensures counted { self.new ≡ (if is_err result then next_number self.old else self.old) }
+        ensures count { self.old ≤ self.new }
+    {
         // std may write past the bytes that it gives, so it gets a buffer of its own.
         let mut chunk = [0; CHUNK];
         let most = CHUNK.min(buf.len());
@@ -149,7 +162,12 @@ impl<W: Write> Sink for HostOutput<W> {
 
     ghost faults = { λ s. s };
 
-    fn write(&mut self, piece: &[u8]) -> Result<usize, Failed> {
+    fn write(&mut self, piece: &[u8]) -> Result<usize, Failed>
+        ensures within { IfOk result (λ n. n ≤ length piece.now) }
+        ensures some { IfOk result (λ n. 0 < length piece.now → 0 < n) }
+        ensures counted { self.new ≡ (if is_err result then next_number self.old else self.old) }
+        ensures count { self.old ≤ self.new }
+    {
         match self.writer.write(piece) {
             Ok(n) if n > 0 || piece.is_empty() => Ok(n),
             _ => {

@@ -1,8 +1,8 @@
 //! Files, a source and a sink in memory, whose calls fail where they are told to.
 
-ghost use Rattle.std.specs.Prelude.{◌≡◌, ◌≢◌, ◌↔◌, ◌<◌, ◌≤◌, ◌++◌, List, [], Some, min, length, take, drop, is_some, is_err, IsTrue, IfOk, IfSome, IfNone, OnErr};
+ghost use Rattle.std.specs.Prelude.{◌≡◌, ◌<◌, ◌≤◌, ◌++◌, List, [], false, Some, min, length, take, drop, is_some, is_err, IfOk, IfSome, IfNone, OnErr};
 ghost use Rattle.cb_model.specs.Outside.{bytes_named};
-ghost use Rattle.cb_host.specs.Host.{Loads, HasLength, Reads};
+ghost use Rattle.cb_host.specs.Host.{Loads, HasLength, Reads, is_failed};
 ghost use Rattle.cb_host.specs.Fakes.{Loading, Reading, Writing, read_fails, read_gives, next_number, is_listed, entries_of, load_fails, after_load, write_fails, write_takes};
 
 use crate::{Failed, Files, Load, Sink, Source};
@@ -29,7 +29,7 @@ pub(crate) fn fill(bytes: &[u8], into: &mut Vec<u8>, limit: u64) -> Load
     requires limit { limit ≤ 4294967295 }
     ensures bytes { Loads bytes.now limit result into.new.items }
     ensures length { HasLength limit result into.new.items }
-    ensures never { result ≢ Load.Failed }
+    ensures never { is_failed result ≡ false }
 {
     let limit = limit as usize;
     if bytes.len() <= limit {
@@ -97,7 +97,7 @@ impl Files for MemFiles {
     fn load(&mut self, name: &str, into: &mut Vec<u8>, limit: u64) -> Load
         requires empty { into.old.items ≡ [] }
         requires limit { limit ≤ 4294967295 }
-        ensures fails { (result ≡ Load.Failed) ↔ IsTrue (load_fails self.old name.now) }
+        ensures fails { is_failed result ≡ load_fails self.old name.now }
         ensures bytes { Loads (bytes_named self.old.list name.now) limit result into.new.items }
         ensures length { HasLength limit result into.new.items }
         ensures count { self.old.faults ≤ self.new.faults }

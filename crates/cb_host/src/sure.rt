@@ -1,8 +1,8 @@
 //! Files, a source and a sink in memory that never fail.
 
-ghost use Rattle.std.specs.Prelude.{◌≡◌, ◌≢◌, ◌<◌, ◌≤◌, List, [], Some, Ok, true, min, length, take, drop, IfOk};
+ghost use Rattle.std.specs.Prelude.{◌≡◌, ◌<◌, ◌≤◌, List, [], Some, Ok, true, false, min, length, take, drop, IfOk};
 ghost use Rattle.cb_model.specs.Outside.{Wrote, bytes_named};
-ghost use Rattle.cb_host.specs.Host.{Loads, HasLength, Reads};
+ghost use Rattle.cb_host.specs.Host.{Loads, HasLength, Reads, is_failed};
 ghost use Rattle.cb_host.specs.Fakes.{Keeping, entries_of, told_of, after_piece};
 
 use crate::memory::{bytes_of, fill, give};
@@ -44,7 +44,7 @@ impl Files for SureFiles {
     fn load(&mut self, name: &str, into: &mut Vec<u8>, limit: u64) -> Load
         requires empty { into.old.items ≡ [] }
         requires limit { limit ≤ 4294967295 }
-        ensures never { result ≢ Load.Failed }
+        ensures never { is_failed result ≡ false }
         ensures bytes { Loads (bytes_named self.old name.now) limit result into.new.items }
         ensures length { HasLength limit result into.new.items }
         ensures same { self.new ≡ self.old }
