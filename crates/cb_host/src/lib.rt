@@ -101,3 +101,6 @@ pub fn write_all<S: Sink>(out: &mut S, piece: &[u8]) -> Result<(), Failed>
     }
     Ok(())
 }
+
+#[cfg(test)]
+mod tests;
