@@ -5,6 +5,8 @@ ghost use Rattle.std.specs.Prelude.{◌≡◌, ℕ, ◌<◌, ◌≤◌, List, []
 ghost use Rattle.cb_model.specs.Outside.{Rose, Wrote, bytes_named};
 ghost use Rattle.cb_host.specs.Host.{IfTold, HasLength, Loads, Reads};
 
+use thiserror::Error;
+
 pub use host::{HostFiles, HostInput, HostOutput};
 pub use memory::{MemFiles, MemSink, MemSource};
 pub use sure::{SureFiles, SureSink, SureSource};
@@ -14,7 +16,8 @@ mod memory;
 mod sure;
 
 /// A read or a write failed.
-#[derive(Clone, Copy, PartialEq, Eq, Debug)]
+#[derive(Clone, Copy, PartialEq, Eq, Debug, Error)]
+#[error("a read or a write failed")]
 pub struct Failed;
 
 /// How a file was loaded.
