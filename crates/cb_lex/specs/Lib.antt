@@ -1,2 +1,5 @@
 pub mod View
 pub mod Laws
+pub mod Faults
+pub mod Digits
+pub mod Scans

@@ -1,9 +1,11 @@
 //! Classes of bytes, and how far a class goes on.
 
-ghost use Rattle.std.specs.Prelude.{◌≡◌, ◌≤◌, length};
-ghost use Rattle.std.specs.List.{prefix_len};
+ghost use Rattle.std.specs.Prelude.{◌≡◌, ◌+◌, ◌*◌, ◌^◌, ◌<◌, ◌≤◌, ◌==◌, None, length, take, MatchOption};
+ghost use Rattle.std.specs.List.{prefix_len, position_or_len};
+ghost use Rattle.std.specs.Option.{SomeIff};
 ghost use Rattle.cb_model.specs.Text.{is_small, is_capital, is_digit, is_word};
 ghost use Rattle.cb_model.specs.Tokens.{is_quotable, is_layout};
+ghost use Rattle.cb_lex.specs.Digits.{Writes};
 
 /// Whether a byte is a letter `A` to `Z` or `_`.
 pub fn is_capital(byte: u8) -> bool
@@ -69,4 +71,38 @@ pub fn quotable_run(bytes: &[u8]) -> usize
         n += 1;
     }
     n
+}
+
+/// How many bytes come before the end of the line.
+pub fn line_run(bytes: &[u8]) -> usize
+    ensures count { result ≡ position_or_len (λ x. x == 10) bytes.now }
+    ensures within { result ≤ length bytes.now }
+{
+    let mut n = 0;
+    while n < bytes.len() && bytes[n] != b'\n' {
+        n += 1;
+    }
+    n
+}
+
+/// How many digits come first, and the number that they write where it is below 2 ^ 64.
+pub fn digits(bytes: &[u8]) -> (usize, Option<u64>)
+    ensures count { result.0 ≡ prefix_len is_digit bytes.now }
+    ensures within { result.0 ≤ length bytes.now }
+    ensures value { Writes (take result.0 bytes.now) result.1 }
+{
+    let mut n = 0;
+    let mut value = Some(0);
+    while n < bytes.len() && is_digit(bytes[n]) {
+        value = with_digit(value, bytes[n] - b'0');
+        n += 1;
+    }
+    (n, value)
+}
+
+/// The number with one more digit behind it, where it is below 2 ^ 64.
+fn with_digit(value: Option<u64>, digit: u8) -> Option<u64>
+    ensures { MatchOption value (result ≡ None) (λ n. SomeIff result (10 * n + digit < 2 ^ 64) (10 * n + digit)) }
+{
+    value?.checked_mul(10)?.checked_add(u64::from(digit))
 }
