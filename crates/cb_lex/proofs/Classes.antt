@@ -1,14 +1,13 @@
 -- The longest match, by the first byte.
-use Rattle.std.specs.Prelude.{nat_le, ◌&&◌, ◌||◌, ◌==◌, ◌≢◌, if◌then◌else◌, bytes_eq, codes, not, nat_eq, pos, neg_ℤ}
+use Rattle.std.specs.Prelude.{◌&&◌, ◌==◌, if◌then◌else◌, bytes_eq, nat_eq, pos, neg_ℤ}
 use Rattle.std.specs.List.{list_all}
 use Rattle.std.proofs.lemmas.Bool.Decides.{nat_tests, eqb_tells}
-use Rattle.std.proofs.Common.{◌≡◌, ℕ, suc, zero, ◌+◌, ◌-◌, ◌<◌, ◌≤◌, Bool, true, false, List, [], ◌∷◌, ◌++◌, length, take, drop, ⊎_elim, Option, Some, None, refl, sym, ◌∙◌, ap, subst, arith, length-take-le}
-use Rattle.cb_lex.proofs.Bools.{and_false, false_and, both, true_and}
-use Rattle.cb_lex.proofs.Runs.{run, run_within, run_all, run_past}
+use Rattle.std.proofs.Common.{◌≡◌, ℕ, suc, zero, ◌+◌, ◌<◌, ◌≤◌, Bool, true, false, List, [], ◌∷◌, length, take, ⊎_elim, Option, Some, None, refl, ◌∙◌, ap, arith}
+use Rattle.cb_lex.proofs.Bools.{and_false, false_and, both}
 use Rattle.cb_model.specs.declared.Kind.{Kind}
 use Rattle.cb_model.specs.declared.Kind.TheVariants as kind
 use Rattle.cb_model.specs.Text.{Text, is_small, is_capital, is_digit, is_word}
-use Rattle.cb_model.specs.Tokens.{Token, spelled, is_quoted, is_quotable, is_number, digits_value, marks, mark_named, Longest, NoToken, is_layout}
+use Rattle.cb_model.specs.Tokens.{spelled, is_quoted, is_number, digits_value, marks, mark_named, Longest, NoToken}
 
 -- ---- a first byte, and a test of what follows it
 
@@ -23,8 +22,10 @@ class_longest {x} {test} {named} s n c le passes past = record { within = omega 
   where
     one_more : 1 + n ≡ suc n
     one_more = omega arith
+
     at_stop : spelled (take (1 + n) (x ∷ s)) ≡ Some (named (take n s))
     at_stop = ap (λ (i : ℕ). spelled (take i (x ∷ s))) one_more ∙ c.is (take n s) passes
+
     beyond : (m : ℕ) → 1 + n < m → m ≤ length (x ∷ s) → spelled (take m (x ∷ s)) ≡ None
     beyond zero lt le = absurd (omega arith)
     beyond (suc m) lt le = c.not_is (take m s) (past m (omega arith) (omega arith))

@@ -4,14 +4,14 @@ use Rattle.std.specs.Int.{w64}
 use Rattle.std.specs.List.{list_all, prefix_len}
 use Rattle.std.specs.Option.{SomeIff}
 use Rattle.std.proofs.lemmas.Bool.Decides.{eqb_tells}
-use Rattle.std.proofs.Common.{◌≡◌, ℕ, suc, zero, ◌+◌, ◌-◌, ◌^◌, ◌<◌, ◌≤◌, Bool, true, false, List, [], ◌∷◌, ◌++◌, length, get_or, take, drop, Option, Some, None, refl, sym, ◌∙◌, ap, subst, arith, ⊎_elim}
+use Rattle.std.proofs.Common.{◌≡◌, ℕ, suc, zero, ◌+◌, ◌-◌, ◌^◌, ◌<◌, ◌≤◌, Bool, true, false, List, [], ◌∷◌, length, get_or, take, drop, Option, Some, None, refl, sym, ◌∙◌, ap, subst, arith, ⊎_elim}
 use Rattle.cb_model.specs.declared.Kind.{Kind}
 use Rattle.cb_model.specs.declared.Kind.TheVariants as kind
 use Rattle.cb_model.specs.Text.{Text, is_small, is_capital, is_digit, is_word}
-use Rattle.cb_model.specs.Tokens.{Fault, Lexes, Longest, NoToken, InRange, spelled, is_quoted, is_quotable, is_number, digits_value, marks, mark_named, is_layout, number, quote, byte, Number, Quote, Byte}
+use Rattle.cb_model.specs.Tokens.{Lexes, Longest, NoToken, InRange, spelled, is_quoted, is_quotable, is_number, digits_value, marks, mark_named, number, quote, byte, Number, Quote, Byte}
 use Rattle.cb_lex.specs.Digits.{Writes}
 use Rattle.cb_lex.specs.Scans.{IsSkipped, HeadPasses}
-use Rattle.cb_lex.proofs.Bools.{both, and_false, false_and}
+use Rattle.cb_lex.proofs.Bools.{and_false, false_and}
 use Rattle.cb_lex.proofs.Runs.{run, run-prefix_len, run_yes, run_within, run_all, run_past}
 use Rattle.cb_lex.proofs.Quotes.{closes, past_quote, never_closes, Unclosed}
 use Rattle.cb_lex.proofs.Classes.{Class, class_longest, class_none, capital_class, small_class, digit_class, minus_class, quote_class, neck_class, pick_mark, mark_step}
@@ -68,6 +68,7 @@ minus_none s n z e = class_none s minus_class fronts
   where
     same : run is_digit s ≡ 0
     same = sym (as_run is_digit s n e) ∙ z
+
     fronts : (m : ℕ) → m ≤ length s → is_number (take m s) ≡ false
     fronts zero le = refl
     fronts (suc m) le = no_number (take (suc m) s) (run_past is_digit s (suc m) (omega (arith, same)) le)
@@ -178,9 +179,11 @@ mark_longest x s k a e = class_longest s 0 only (omega arith) refl past
         passes : (xs : Text) → is_empty xs ≡ true → spelled (x ∷ xs) ≡ Some k
         passes [] h = spelled_mark x [] a ∙ sym e
         passes (y ∷ ys) h = absurd (cc)
+
         fails : (xs : Text) → is_empty xs ≡ false → spelled (x ∷ xs) ≡ None
         fails [] h = absurd (cc)
         fails (y ∷ ys) h = spelled_mark x (y ∷ ys) a ∙ lone_none x y ys a.no_colon
+
     past : (m : ℕ) → 0 < m → m ≤ length s → is_empty (take m s) ≡ false
     past zero lt le = absurd (omega arith)
     past (suc m) lt le = some s (omega arith)
@@ -220,6 +223,7 @@ not_integer k x e = goes marks (tt, (tt, (tt, (tt, (tt, (tt, (tt, (tt, (tt, (tt,
     each : List (Text × Kind) → Type 0
     each [] = Unit {0}
     each (m ∷ ms) = InRange m.1 × each ms
+
     goes : (ms : List (Text × Kind)) → each ms → Some k ≡ mark_named ms (x ∷ []) → InRange k
     goes [] h e = absurd (cc)
     goes (m ∷ ms) h e = by (bytes_eq m.0 (x ∷ [])) (goes ms h.1) e

@@ -5,3 +5,5 @@ pub mod Classes
 pub mod Digits
 pub mod Quotes
 pub mod Front
+pub mod Skips
+pub mod Steps

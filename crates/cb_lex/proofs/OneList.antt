@@ -2,7 +2,7 @@
 use Rattle.std.specs.Prelude.{◌≢◌, ◌==◌, ◌||◌, if◌then◌else◌}
 use Rattle.std.proofs.lemmas.Bool.{cases_order}
 use Rattle.std.proofs.lemmas.Bool.Decides.{eqb_tells}
-use Rattle.std.proofs.Common.{◌≡◌, ℕ, suc, zero, ◌+◌, ◌-◌, ◌<◌, ◌≤◌, Bool, true, false, List, [], ◌∷◌, length, take, drop, ⊎_elim, ◌⊎◌, inl, inr, Option, Some, None, refl, sym, ◌∙◌, ap, subst, arith}
+use Rattle.std.proofs.Common.{◌≡◌, ℕ, suc, zero, ◌+◌, ◌-◌, Bool, true, false, List, [], ◌∷◌, length, take, drop, ⊎_elim, Option, Some, None, refl, sym, ◌∙◌, ap, subst, arith}
 use Rattle.cb_model.specs.declared.Kind.{Kind}
 use Rattle.cb_model.specs.Text.{Text}
 use Rattle.cb_model.specs.Tokens.{Token, Fault, Lexes, Longest, NoToken, InRange, spelled, is_layout, from_newline, ended, layout, comment, token, number, quote, byte, Number, Quote, Byte}
@@ -91,11 +91,11 @@ after_token h i (comment l) = absurd (none_at (comment_never refl) h)
 after_token {at} {line} {n} {s} {k} {f = f} h i (token {ts = us} m j t a r e l) =
     let same : m ≡ n = one_length a h in let kind : j ≡ k = one_kind a h in
     let whole : (m : ℕ) → m ≡ n → (j : Kind) → j ≡ k → (t : Token) → t ≡ record { kind = j; text = take m s; start = at; stop = at + m; line = line } → Lexes (at + m) line (drop m s) us f → Followed at line s n k (t ∷ us) f =
-        λ m p j q t e l. record {
-          rest = us;
-          begins = ap (λ (v : Token). v ∷ us) (e ∙ ap (λ (i : ℕ). let v : Token = record { kind = j; text = take i s; start = at; stop = at + i; line = line } in v) p ∙ ap (λ (i : Kind). let v : Token = record { kind = i; text = take n s; start = at; stop = at + n; line = line } in v) q);
-          lexes = subst (λ (i : ℕ). Lexes (at + i) line (drop i s) us f) p l;
-        } in
+    λ m p j q t e l. record {
+      rest = us;
+      begins = ap (λ (v : Token). v ∷ us) (e ∙ ap (λ (i : ℕ). let v : Token = record { kind = j; text = take i s; start = at; stop = at + i; line = line } in v) p ∙ ap (λ (i : Kind). let v : Token = record { kind = i; text = take n s; start = at; stop = at + n; line = line } in v) q);
+      lexes = subst (λ (i : ℕ). Lexes (at + i) line (drop i s) us f) p l;
+    } in
     whole m same j kind t e l
 after_token h i (number m j a r) = absurd (r (subst InRange (one_kind h a) i))
 after_token h i (quote a) = absurd (none_begins a h)

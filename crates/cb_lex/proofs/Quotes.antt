@@ -1,9 +1,7 @@
 -- The longest match of a quoted atom, and that no token begins at a quote that nothing closes.
-use Rattle.std.specs.Prelude.{◌&&◌, ◌==◌, not, if◌then◌else◌}
-use Rattle.std.specs.List.{list_all}
-use Rattle.std.proofs.lemmas.Bool.{eqb-true}
+use Rattle.std.specs.Prelude.{◌==◌, if◌then◌else◌}
 use Rattle.std.proofs.lemmas.Bool.Decides.{eqb_tells}
-use Rattle.std.proofs.Common.{◌≡◌, ℕ, suc, zero, ◌+◌, ◌<◌, ◌≤◌, ◌≢◌, Bool, true, false, List, [], ◌∷◌, ◌++◌, length, get_or, take, refl, sym, ◌∙◌, ap, subst, arith, ⊎_elim}
+use Rattle.std.proofs.Common.{◌≡◌, ℕ, suc, zero, ◌<◌, ◌≤◌, ◌≢◌, Bool, true, false, [], ◌∷◌, length, get_or, take, refl, ap, subst, arith, ⊎_elim}
 use Rattle.cb_model.specs.Text.{Text}
 use Rattle.cb_model.specs.Tokens.{is_quoted, is_quotable}
 use Rattle.cb_lex.proofs.Bools.{both, and_false, false_and}

@@ -1,7 +1,7 @@
 -- How far a class of bytes goes on.
-use Rattle.std.specs.Prelude.{◌&&◌, ◌==◌, if◌then◌else◌, cond, not}
+use Rattle.std.specs.Prelude.{◌&&◌, if◌then◌else◌, cond}
 use Rattle.std.specs.List.{list_all, prefix_len}
-use Rattle.std.proofs.Common.{◌≡◌, ℕ, suc, zero, ◌+◌, ◌-◌, ◌*◌, ◌<◌, ◌≤◌, Bool, true, false, List, [], ◌∷◌, ◌++◌, length, get_or, take, drop, refl, sym, ◌∙◌, ap, subst, arith}
+use Rattle.std.proofs.Common.{◌≡◌, ℕ, suc, zero, ◌+◌, ◌<◌, ◌≤◌, Bool, true, false, [], ◌∷◌, length, take, refl, ap, arith}
 use Rattle.cb_lex.proofs.Bools.{and_false, false_and, both}
 use Rattle.cb_model.specs.Text.{Text}
 

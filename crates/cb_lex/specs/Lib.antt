@@ -3,3 +3,4 @@ pub mod Laws
 pub mod Faults
 pub mod Digits
 pub mod Scans
+pub mod Place

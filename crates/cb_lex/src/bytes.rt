@@ -1,11 +1,12 @@
 //! Classes of bytes, and how far a class goes on.
 
-ghost use Rattle.std.specs.Prelude.{◌≡◌, ◌+◌, ◌*◌, ◌^◌, ◌<◌, ◌≤◌, ◌==◌, None, length, take, MatchOption};
+ghost use Rattle.std.specs.Prelude.{◌≡◌, ◌+◌, ◌*◌, ◌^◌, ◌<◌, ◌≤◌, ◌==◌, None, length, take, drop, MatchOption};
 ghost use Rattle.std.specs.List.{prefix_len, position_or_len};
 ghost use Rattle.std.specs.Option.{SomeIff};
 ghost use Rattle.cb_model.specs.Text.{is_small, is_capital, is_digit, is_word};
 ghost use Rattle.cb_model.specs.Tokens.{is_quotable, is_layout};
 ghost use Rattle.cb_lex.specs.Digits.{Writes};
+ghost use Rattle.cb_lex.specs.Scans.{IsSkipped, SameTokens};
 
 /// Whether a byte is a letter `A` to `Z` or `_`.
 pub fn is_capital(byte: u8) -> bool
@@ -105,4 +106,33 @@ fn with_digit(value: Option<u64>, digit: u8) -> Option<u64>
     ensures { MatchOption value (result ≡ None) (λ n. SomeIff result (10 * n + digit < 2 ^ 64) (10 * n + digit)) }
 {
     value?.checked_mul(10)?.checked_add(u64::from(digit))
+}
+
+/// The place behind layout and comments, and its line.
+pub fn skip(source: &[u8], place: usize, line: u32) -> (usize, u32)
+    requires within { place ≤ length source.now }
+    requires short { length source.now < 2 ^ 31 }
+    requires line_within { line ≤ place + 1 }
+    ensures within { result.0 ≤ length source.now }
+    ensures forward { place ≤ result.0 }
+    ensures line_within { result.1 ≤ result.0 + 1 }
+    ensures skipped { IsSkipped (drop result.0 source.now) }
+    ensures same { SameTokens place line (drop place source.now) result.0 result.1 (drop result.0 source.now) }
+{
+    let mut at = place;
+    let mut line = line;
+    while at < source.len() {
+        let byte = source[at];
+        if is_layout(byte) {
+            if byte == b'\n' {
+                line += 1;
+            }
+            at += 1;
+        } else if byte == b'%' {
+            at += 1 + line_run(&source[at + 1..]);
+        } else {
+            break;
+        }
+    }
+    (at, line)
 }

@@ -1,5 +1,4 @@
 use Rattle.cb_lex.proofs.OneList.{one_list}
-use Rattle.cb_lex.proofs.Front.{other_none}
 use Rattle.cb_lex.proofs.one_token_list.Goals as goal
 
 pub returns : goal.returns

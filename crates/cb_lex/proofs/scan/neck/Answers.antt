@@ -11,6 +11,6 @@ pub returns-else-not-is_empty : goal.returns-else-not-is_empty
 returns-else-not-is_empty c line =
     lone_colon c.args.at line c.args.tail.now
     (elim c.else-not-is_empty.branch [
-      else-not-is_empty-via-then-not-is_empty+else-tail-eq45 w ↦ λ lt. w.if-tail-eq45.false
-    | else-not-is_empty-via-else-not-is_empty w ↦ λ lt. absurd (grind (arith, nat_tests))
+      | else-not-is_empty-via-then-not-is_empty+else-tail-eq45 w ↦ λ lt. w.if-tail-eq45.false
+      | else-not-is_empty-via-else-not-is_empty w ↦ λ lt. absurd (grind (arith, nat_tests))
     ])

@@ -10,6 +10,6 @@ pub returns-else-count-tail : goal.returns-else-count-tail
 returns-else-count-tail c line =
     open_quote c.args.at line c.args.tail.now c.quotable_run-count.result c.quotable_run-count.ensures.count
     (elim c.else-count-tail.branch [
-      else-count-tail-via-then-count-tail+else-tail-count-eq39 w ↦ λ lt. w.if-tail-count-eq39.false
-    | else-count-tail-via-else-count-tail w ↦ λ lt. absurd (omega arith)
+      | else-count-tail-via-then-count-tail+else-tail-count-eq39 w ↦ λ lt. w.if-tail-count-eq39.false
+      | else-count-tail-via-else-count-tail w ↦ λ lt. absurd (omega arith)
     ])

@@ -1,5 +1,5 @@
-use Rattle.std.proofs.Common.{◌≢◌, get_or, arith}
-use Rattle.cb_lex.proofs.Front.{variable_front, atom_front, mark_front, other_front, Alone}
+use Rattle.std.proofs.Common.{arith}
+use Rattle.cb_lex.proofs.Front.{variable_front, atom_front, mark_front, other_front}
 use Rattle.cb_lex.proofs.scan.token_ahead.Goals as goal
 
 pub returns-then-is_capital : goal.returns-then-is_capital
