@@ -13,3 +13,4 @@ pub mod Refusals
 pub mod Verdicts
 pub mod Built
 pub mod Top
+pub mod Room
