@@ -3,6 +3,7 @@ pub mod Text
 pub mod Values
 pub mod Circuits
 pub mod Equations
+pub mod Program
 pub mod Tokens
 pub mod Grammar
 pub mod FirstForm
