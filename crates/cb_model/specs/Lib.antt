@@ -4,6 +4,7 @@ pub mod Values
 pub mod Circuits
 pub mod Equations
 pub mod Program
+pub mod Derivation
 pub mod Tokens
 pub mod Grammar
 pub mod FirstForm
