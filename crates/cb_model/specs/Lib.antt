@@ -5,6 +5,7 @@ pub mod Circuits
 pub mod Equations
 pub mod Program
 pub mod Derivation
+pub mod Answers
 pub mod Tokens
 pub mod Grammar
 pub mod FirstForm
