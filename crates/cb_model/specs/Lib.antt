@@ -6,6 +6,7 @@ pub mod Equations
 pub mod Program
 pub mod Derivation
 pub mod Answers
+pub mod Line
 pub mod Tokens
 pub mod Grammar
 pub mod FirstForm
