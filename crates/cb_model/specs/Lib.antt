@@ -7,6 +7,7 @@ pub mod Program
 pub mod Derivation
 pub mod Answers
 pub mod Line
+pub mod Room
 pub mod Tokens
 pub mod Grammar
 pub mod FirstForm
