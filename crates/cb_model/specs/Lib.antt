@@ -10,6 +10,7 @@ pub mod Line
 pub mod Room
 pub mod Tokens
 pub mod Grammar
+pub mod Written
 pub mod FirstForm
 pub mod Outcomes
 pub mod Outside
