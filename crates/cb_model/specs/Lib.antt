@@ -11,6 +11,7 @@ pub mod Room
 pub mod Tokens
 pub mod Grammar
 pub mod Written
+pub mod Forms
 pub mod FirstForm
 pub mod Outcomes
 pub mod Outside
