@@ -12,6 +12,7 @@ pub mod Tokens
 pub mod Grammar
 pub mod Written
 pub mod Forms
+pub mod Directives
 pub mod FirstForm
 pub mod Outcomes
 pub mod Outside
