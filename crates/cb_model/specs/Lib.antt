@@ -13,6 +13,7 @@ pub mod Grammar
 pub mod Written
 pub mod Forms
 pub mod Directives
+pub mod Sorts
 pub mod FirstForm
 pub mod Outcomes
 pub mod Outside
