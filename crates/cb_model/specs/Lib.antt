@@ -14,6 +14,7 @@ pub mod Written
 pub mod Forms
 pub mod Directives
 pub mod Sorts
+pub mod Loading
 pub mod FirstForm
 pub mod Outcomes
 pub mod Outside
