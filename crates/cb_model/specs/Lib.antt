@@ -15,6 +15,7 @@ pub mod Forms
 pub mod Directives
 pub mod Sorts
 pub mod Loading
+pub mod Facts
 pub mod FirstForm
 pub mod Outcomes
 pub mod Outside
