@@ -16,6 +16,7 @@ pub mod Directives
 pub mod Sorts
 pub mod Loading
 pub mod Facts
+pub mod Adder
 pub mod FirstForm
 pub mod Outcomes
 pub mod Outside
