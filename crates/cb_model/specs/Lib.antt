@@ -24,4 +24,5 @@ pub mod Commands
 pub mod Refusals
 pub mod Verdicts
 pub mod Built
+pub mod Output
 pub mod Top
