@@ -6,3 +6,5 @@ pub mod Determined
 pub mod OneValuation
 pub mod Depends
 pub mod Decided
+pub mod Shapes
+pub mod Fixed
