@@ -11,3 +11,4 @@ pub mod WaitingRow
 pub mod RoomRow
 pub mod OnlyNo
 pub mod CircuitRows
+pub mod FileRows

@@ -11,3 +11,4 @@ pub mod RoomRow
 pub mod QueryExamples
 pub mod RoomExamples
 pub mod CircuitExamples
+pub mod FileExamples

@@ -2,12 +2,18 @@
 #![tactic(auto)]
 
 ghost use Rattle.cb_rows.specs.CircuitExamples.{CircuitExamples};
+ghost use Rattle.cb_rows.specs.FileExamples.{FileExamples};
 ghost use Rattle.cb_rows.specs.QueryExamples.{QueryExamples};
 ghost use Rattle.cb_rows.specs.RoomExamples.{RoomExamples};
 
 /// Worked circuits: gates, flattening, comparisons and the generated adder.
 pub fn circuit_examples()
     ensures { CircuitExamples }
+{}
+
+/// Worked files: words, directives, sorts, facts and their refusals.
+pub fn file_examples()
+    ensures { FileExamples }
 {}
 
 /// Worked queries with the lines that they print.
