@@ -8,3 +8,4 @@ pub mod Depends
 pub mod Decided
 pub mod Shapes
 pub mod Fixed
+pub mod OneReading

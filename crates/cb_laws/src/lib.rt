@@ -1,7 +1,7 @@
 //! Laws of the definitions: each is the contract of a function that does nothing.
 #![tactic(auto)]
 
-ghost use Rattle.cb_laws.specs.Laws.{SolvableByTables, SolvableDecided, SolvableByTablesBelow, ReadyStays, StepDetermined, RunDetermined, FormDenotes, OneValuation};
+ghost use Rattle.cb_laws.specs.Laws.{SolvableByTables, SolvableDecided, SolvableByTablesBelow, ReadyStays, StepDetermined, RunDetermined, FormDenotes, OneValuation, ClausesAreOne, QueriesAreOne};
 
 /// Boolean equations are solvable exactly where they have a solution in the algebra (Boole).
 pub fn solvable_by_tables()
@@ -42,4 +42,14 @@ pub fn form_denotes()
 /// A circuit whose gates read only earlier nets has exactly one valuation for each input.
 pub fn one_valuation()
     ensures { OneValuation }
+{}
+
+/// A list of tokens is read as one list of clauses at most.
+pub fn clauses_are_one()
+    ensures { ClausesAreOne }
+{}
+
+/// A list of tokens is read as one list of queries at most.
+pub fn queries_are_one()
+    ensures { QueriesAreOne }
 {}
