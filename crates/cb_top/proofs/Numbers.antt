@@ -72,7 +72,7 @@ pub number_upto-digits : (limit : ℕ) (w : Text) → 0 < length w → get_or w 
 number_upto-digits limit [] l h = absurd (omega arith)
 number_upto-digits limit (x ∷ xs) l h =
     pick (list_all is_digit (x ∷ xs)) (leads_zero (x ∷ xs)) (nat_le 1 (digits_value 0 (x ∷ xs))) (nat_le (digits_value 0 (x ∷ xs)) limit) (digits_value 0 (x ∷ xs))
-      (no_zero x xs h) (at_least_one x xs h)
+    (no_zero x xs h) (at_least_one x xs h)
     ∙ sym (digits_upto-whole limit 0 (x ∷ xs) (omega arith))
 
 none_zero : (all one fits : Bool) (n : ℕ) → (if all && false && one && fits then Some n else None) ≡ None
