@@ -110,7 +110,7 @@ usage-answers files words text o c t e = record {
 }
 
 pub unbuilt-answers : (files : Option (List (Text × Text))) (words : List Text) (c : Command) (text : Text) (o : Outcome) → Some c ≡ command_of words →
-    CommandSays (Some c) (told_bytes files words) (refusal_line unbuilt ∷ []) o → text ≡ UNBUILT.now → Answers files words text o
+    CommandSays (Some c) (told_bytes files words) (refusal_line unbuilt ∷ []) o → text ≡ lines_text (refusal_line unbuilt ∷ []) → Answers files words text o
 unbuilt-answers files words c text o e says t = record {
   file = told_bytes files words;
   file_told = λ list p. ap (λ f. told_bytes f words) p;
