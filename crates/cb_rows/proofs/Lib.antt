@@ -1,0 +1,14 @@
+pub mod PlainRow
+pub mod TryRow
+pub mod DelayRow
+pub mod WakeRow
+pub mod DemonRow
+pub mod CircuitGoalRow
+pub mod BusRow
+pub mod CompoundRow
+pub mod ParameterRow
+pub mod WaitingRow
+pub mod RoomRow
+pub mod OnlyNo
+pub mod CircuitRows
+pub mod FileRows

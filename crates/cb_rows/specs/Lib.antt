@@ -1,0 +1,14 @@
+pub mod PlainRow
+pub mod TryRow
+pub mod DelayRow
+pub mod WakeRow
+pub mod DemonRow
+pub mod CircuitGoalRow
+pub mod BusRow
+pub mod CompoundRow
+pub mod ParameterRow
+pub mod RoomRow
+pub mod QueryExamples
+pub mod RoomExamples
+pub mod CircuitExamples
+pub mod FileExamples

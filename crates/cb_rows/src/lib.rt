@@ -1,0 +1,27 @@
+//! Worked examples of the definitions: each is part of the contract of a function that does nothing.
+#![tactic(auto)]
+
+ghost use Rattle.cb_rows.specs.CircuitExamples.{CircuitExamples};
+ghost use Rattle.cb_rows.specs.FileExamples.{FileExamples};
+ghost use Rattle.cb_rows.specs.QueryExamples.{QueryExamples};
+ghost use Rattle.cb_rows.specs.RoomExamples.{RoomExamples};
+
+/// Worked circuits: gates, flattening, comparisons and the generated adder.
+pub fn circuit_examples()
+    ensures { CircuitExamples }
+{}
+
+/// Worked files: words, directives, sorts, facts and their refusals.
+pub fn file_examples()
+    ensures { FileExamples }
+{}
+
+/// Worked queries with the lines that they print.
+pub fn query_examples()
+    ensures { QueryExamples }
+{}
+
+/// Worked numbers of the bounds on nodes, and what they allow.
+pub fn room_examples()
+    ensures { RoomExamples }
+{}
