@@ -18,14 +18,14 @@ use Rattle.cb_ops.specs.Ops.{Agree, DependsOn, DependAll, StandsFor, IsIte, Room
 abbrev pub IteRoom : Store → Store → ℕ → ℕ → ℕ → Type 0
 IteRoom s t f g h = Room (f ∷ g ∷ h ∷ []) 1 s t
 
-choose : (b : Bool) (x y z w : Bool) → x ≡ z → y ≡ w → (if b then x else y) ≡ (if b then z else w)
+pub choose : (b : Bool) (x y z w : Bool) → x ≡ z → y ≡ w → (if b then x else y) ≡ (if b then z else w)
 choose b x y z w p q = λ j. if b then p j else q j
 
 choose-all : (b c x y z w : Bool) → b ≡ c → x ≡ z → y ≡ w → (if b then x else y) ≡ (if c then z else w)
 choose-all b c x y z w o p q = λ j. if o j then p j else q j
 
 -- the bit that stands there already
-put-id : (a : Bits) (l : ℕ) (b : Bool) → a l ≡ b → put l b a ≡ a
+pub put-id : (a : Bits) (l : ℕ) (b : Bool) → a l ≡ b → put l b a ≡ a
 put-id a l b e = λ i k. at k i
   where
     at : (k : ℕ) → put l b a k ≡ a k
@@ -34,10 +34,10 @@ put-id a l b e = λ i k. at k i
       | inr other ↦ ap (λ c. if c then b else a k) (ne_eqb k l other)
     ]
 
-put-same : (a : Bits) (l k : ℕ) (b : Bool) → k ≡ l → put l b a k ≡ b
+pub put-same : (a : Bits) (l k : ℕ) (b : Bool) → k ≡ l → put l b a k ≡ b
 put-same a l k b e = ap (λ c. if c then b else a k) (eq-eqb k l e)
 
-put-other : (a : Bits) (l : ℕ) (b : Bool) (k : ℕ) → (k ≡ l → ⊥) → put l b a k ≡ a k
+pub put-other : (a : Bits) (l : ℕ) (b : Bool) (k : ℕ) → (k ≡ l → ⊥) → put l b a k ≡ a k
 put-other a l b k h = ap (λ c. if c then b else a k) (ne_eqb k l h)
 
 -- a list of levels without one
@@ -89,7 +89,7 @@ without-lt k (l ∷ ls) h = elim (cases_Bool (nat_eq l k)) [
 
 module _ (ts : List Triple) (is : IsDiagram ts) where
   -- a node depends on its level
-  essential : (n k : ℕ) → IsNode ts n → level_of ts n ≡ k → k < 2 ^ 32 → ((a : Bits) (b : Bool) → function_of ts n (put k b a) ≡ function_of ts n a) → ⊥
+  pub essential : (n k : ℕ) → IsNode ts n → level_of ts n ≡ k → k < 2 ^ 32 → ((a : Bits) (b : Bool) → function_of ts n (put k b a) ≡ function_of ts n a) → ⊥
   essential n k w lev small same = elim (kind_of ts n w) [
     | bottom e ↦ let z : level_of ts n ≡ 2 ^ 32 = ap (level_of ts) e ∙ level_of-zero ts in omega arith
     | top e ↦ let z : level_of ts n ≡ 2 ^ 32 = ap (level_of ts) e ∙ level_of-one ts in omega arith
@@ -103,7 +103,7 @@ module _ (ts : List Triple) (is : IsDiagram ts) where
   ]
 
   -- a node that depends on the levels of a list alone has its level there
-  listed : (n : ℕ) (ls : List ℕ) → IsNode ts n → level_of ts n < 2 ^ 32 → DependsOn ts n ls → list_any (nat_eq (level_of ts n)) ls ≡ true
+  pub listed : (n : ℕ) (ls : List ℕ) → IsNode ts n → level_of ts n < 2 ^ 32 → DependsOn ts n ls → list_any (nat_eq (level_of ts n)) ls ≡ true
   listed n ls w small d = elim (cases_Bool (list_any (nat_eq (level_of ts n)) ls)) [
     | inl there ↦ there
     | inr none ↦ absurd (essential n (level_of ts n) w refl small (λ a b. d.agrees (put (level_of ts n) b a) a (agree-absent (level_of ts n) ls a b none)))
@@ -142,7 +142,7 @@ grown-function s t g n w a = ap (λ ts. function_of ts n a) g.triples ∙ functi
 pub grown-level : (s t : Store) → Grows s t → (n : ℕ) → IsNode s.triples n → level_of t.triples n ≡ level_of s.triples n
 grown-level s t g n w = ap (λ ts. level_of ts n) g.triples ∙ level_of-append s.triples g.more n w
 
-grown-depends : (s t : Store) → Grows s t → (n : ℕ) (ls : List ℕ) → IsNode s.triples n → DependsOn s.triples n ls → DependsOn t.triples n ls
+pub grown-depends : (s t : Store) → Grows s t → (n : ℕ) (ls : List ℕ) → IsNode s.triples n → DependsOn s.triples n ls → DependsOn t.triples n ls
 grown-depends s t g n ls w d = subst (λ ts. DependsOn ts n ls) (sym g.triples) (depends-append s.triples g.more n ls w d)
 
 pub Grows-same : (s : Store) → Grows s s
@@ -181,7 +181,7 @@ grown-cofactor s t g n level bit r w c = record {
   function = λ a. grown-function s t g r c.node a ∙ c.function a ∙ sym (grown-function s t g n w (put level bit a));
 }
 
-cofactor-at : (ts : List Triple) (n level : ℕ) (bit : Bool) (r : ℕ) (a : Bits) → IsCofactor ts n level bit r → a level ≡ bit → function_of ts r a ≡ function_of ts n a
+pub cofactor-at : (ts : List Triple) (n level : ℕ) (bit : Bool) (r : ℕ) (a : Bits) → IsCofactor ts n level bit r → a level ≡ bit → function_of ts r a ≡ function_of ts n a
 cofactor-at ts n level bit r a c e = c.function a ∙ ap (function_of ts n) (put-id a level bit e)
 
 module _ (s t u v : Store) (st : Grows s t) (tu : Grows t u) (f g h : ℕ) (wf : IsNode s.triples f) (wg : IsNode s.triples g) (wh : IsNode s.triples h) (level f0 g0 h0 f1 g1 h1 lo hi : ℕ)

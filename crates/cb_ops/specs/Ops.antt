@@ -1,5 +1,5 @@
 -- What the operations on diagrams promise.
-use Rattle.std.specs.Prelude.{◌≡◌, ℕ, ◌+◌, ◌*◌, ◌<◌, ◌≤◌, ◌^◌, Bool, true, List, [], ◌∷◌, ◌++◌, map, length, if◌then◌else◌}
+use Rattle.std.specs.Prelude.{◌≡◌, ◌≢◌, ℕ, ◌+◌, ◌*◌, ◌<◌, ◌≤◌, ◌^◌, Bool, true, false, List, [], ◌∷◌, ◌++◌, map, length, if◌then◌else◌}
 use Rattle.cb_model.specs.Bits.{Bits, put, weight}
 use Rattle.cb_model.specs.Outside.{Rose}
 use Rattle.cb_dd.specs.declared.Triple.{Triple}
@@ -54,3 +54,9 @@ pub record IsLeastTrue (ts : List Triple) (n : ℕ) (levels : List ℕ) (bits : 
   pub as_many : length bits ≡ length levels
   pub makes_true : (a : Bits) → map a levels ≡ bits → function_of ts n a ≡ true
   pub least : (a : Bits) → function_of ts n a ≡ true → weight bits ≤ weight (map a levels)
+
+-- node r isn't 0 everywhere, and is node n with the bit at the level; the bit is 1 only where n is 0 with the other
+pub record IsLeastSide (ts : List Triple) (n level : ℕ) (bit : Bool) (r : ℕ) : Type 0 where
+  pub cofactor : IsCofactor ts n level bit r
+  pub some : r ≢ 0
+  pub other : bit ≡ true → (a : Bits) → function_of ts n (put level false a) ≡ false

@@ -4,7 +4,8 @@
 ghost use Rattle.std.specs.Prelude.{◌≡◌, ◌≢◌, ◌⊎◌, ℕ, Bool, not, ◌&&◌, ◌||◌, ◌+◌, ◌-◌, ◌*◌, ◌<◌, ◌≤◌, ◌^◌, ◌↔◌, [], ◌∷◌, ◌++◌, List, length, take, Some, None, Ok, Err, IfOk, OnOk, OnErr, IfSome, IfNone, IsTrue, true, false, if◌then◌else◌};
 ghost use Rattle.cb_model.specs.Bits.{Bits, xor};
 ghost use Rattle.cb_dd.specs.Diagram.{Store, IsDiagram, IsCanonical, IsNode, IsChild, IsFull, HasParts, Holds, function_of, level_of, fulls_after, parts_of, triple};
-ghost use Rattle.cb_ops.specs.Ops.{Grows, StandsFor, IsIte, IsCofactor, Room, HasCause};
+ghost use Rattle.std.specs.List.Sorted.{IsStrictlyIncreasing};
+ghost use Rattle.cb_ops.specs.Ops.{Grows, StandsFor, IsIte, IsCofactor, Room, HasCause, DependsOn, IsLeastTrue, IsLeastSide};
 ghost use Rattle.cb_ops.specs.declared.Call.{Call};
 
 use cb_dd::{Dd, DdMark, Node, Stop};
@@ -170,6 +171,150 @@ impl Ops {
         let r = self.node(level as u32, lo, hi)?;
         self.note(f, g, h, r);
         Ok(r)
+    }
+
+    /// The node that is 1 where f is 0.
+    pub fn not(&mut self, f: Node) -> Result<Node, Stop>
+        requires { IsNode self.old.triples f.0 }
+        ensures is_node { IfOk result (λ n. IsNode self.new.triples n.0) }
+        ensures function { IfOk result (λ n. StandsFor self.new.triples n.0 (λ a.
+            not (function_of self.old.triples f.0 a))) }
+        ensures grows { Grows self.old self.new }
+        ensures room { Room (f.0 ∷ []) 1 self.old self.new }
+        ensures full { result ≡ Err Stop.Nodes → length self.new.triples ≡ self.new.budget }
+        ensures nodes { result ≡ Err Stop.Nodes → HasCause (f.0 ∷ []) 1 self.old self.new }
+        ensures unbounded { self.old.budget ≡ 2 ^ 64 - 1 → result ≢ Err Stop.Nodes }
+        ensures fulls { self.new.fulls ≡ fulls_after self.old.fulls result }
+        ensures diagram { IsDiagram self.new.triples }
+    {
+        self.ite(f, Node::ZERO, Node::ONE)
+    }
+
+    /// The node that is 1 where both are.
+    pub fn and(&mut self, f: Node, g: Node) -> Result<Node, Stop>
+        requires f { IsNode self.old.triples f.0 }
+        requires g { IsNode self.old.triples g.0 }
+        ensures is_node { IfOk result (λ n. IsNode self.new.triples n.0) }
+        ensures function { IfOk result (λ n. StandsFor self.new.triples n.0 (λ a.
+            function_of self.old.triples f.0 a && function_of self.old.triples g.0 a)) }
+        ensures grows { Grows self.old self.new }
+        ensures room { Room (f.0 ∷ g.0 ∷ []) 1 self.old self.new }
+        ensures full { result ≡ Err Stop.Nodes → length self.new.triples ≡ self.new.budget }
+        ensures nodes { result ≡ Err Stop.Nodes → HasCause (f.0 ∷ g.0 ∷ []) 1 self.old self.new }
+        ensures unbounded { self.old.budget ≡ 2 ^ 64 - 1 → result ≢ Err Stop.Nodes }
+        ensures fulls { self.new.fulls ≡ fulls_after self.old.fulls result }
+        ensures diagram { IsDiagram self.new.triples }
+    {
+        if g.0 < f.0 {
+            return self.ite(g, f, Node::ZERO);
+        }
+        self.ite(f, g, Node::ZERO)
+    }
+
+    /// The node that is 1 where one at least is.
+    pub fn or(&mut self, f: Node, g: Node) -> Result<Node, Stop>
+        requires f { IsNode self.old.triples f.0 }
+        requires g { IsNode self.old.triples g.0 }
+        ensures is_node { IfOk result (λ n. IsNode self.new.triples n.0) }
+        ensures function { IfOk result (λ n. StandsFor self.new.triples n.0 (λ a.
+            function_of self.old.triples f.0 a || function_of self.old.triples g.0 a)) }
+        ensures grows { Grows self.old self.new }
+        ensures room { Room (f.0 ∷ g.0 ∷ []) 1 self.old self.new }
+        ensures full { result ≡ Err Stop.Nodes → length self.new.triples ≡ self.new.budget }
+        ensures nodes { result ≡ Err Stop.Nodes → HasCause (f.0 ∷ g.0 ∷ []) 1 self.old self.new }
+        ensures unbounded { self.old.budget ≡ 2 ^ 64 - 1 → result ≢ Err Stop.Nodes }
+        ensures fulls { self.new.fulls ≡ fulls_after self.old.fulls result }
+        ensures diagram { IsDiagram self.new.triples }
+    {
+        if g.0 < f.0 {
+            return self.ite(g, Node::ONE, f);
+        }
+        self.ite(f, Node::ONE, g)
+    }
+
+    /// The node that is 1 where exactly one is.
+    pub fn xor(&mut self, f: Node, g: Node) -> Result<Node, Stop>
+        requires f { IsNode self.old.triples f.0 }
+        requires g { IsNode self.old.triples g.0 }
+        ensures is_node { IfOk result (λ n. IsNode self.new.triples n.0) }
+        ensures function { IfOk result (λ n. StandsFor self.new.triples n.0 (λ a.
+            xor (function_of self.old.triples f.0 a) (function_of self.old.triples g.0 a))) }
+        ensures grows { Grows self.old self.new }
+        ensures room { Room (f.0 ∷ g.0 ∷ []) 2 self.old self.new }
+        ensures full { result ≡ Err Stop.Nodes → length self.new.triples ≡ self.new.budget }
+        ensures nodes { result ≡ Err Stop.Nodes → HasCause (f.0 ∷ g.0 ∷ []) 2 self.old self.new }
+        ensures unbounded { self.old.budget ≡ 2 ^ 64 - 1 → result ≢ Err Stop.Nodes }
+        ensures fulls { self.new.fulls ≡ fulls_after self.old.fulls result }
+        ensures diagram { IsDiagram self.new.triples }
+    {
+        if g.0 < f.0 {
+            return self.differ(g, f);
+        }
+        self.differ(f, g)
+    }
+
+    // The node that is 1 where exactly one is: the second, negated where the first is 1.
+    fn differ(&mut self, f: Node, g: Node) -> Result<Node, Stop>
+        requires f { IsNode self.old.triples f.0 }
+        requires g { IsNode self.old.triples g.0 }
+        ensures is_node { IfOk result (λ n. IsNode self.new.triples n.0) }
+        ensures function { IfOk result (λ n. StandsFor self.new.triples n.0 (λ a.
+            xor (function_of self.old.triples f.0 a) (function_of self.old.triples g.0 a))) }
+        ensures grows { Grows self.old self.new }
+        ensures room { Room (f.0 ∷ g.0 ∷ []) 2 self.old self.new }
+        ensures full { result ≡ Err Stop.Nodes → length self.new.triples ≡ self.new.budget }
+        ensures nodes { result ≡ Err Stop.Nodes → HasCause (f.0 ∷ g.0 ∷ []) 2 self.old self.new }
+        ensures unbounded { self.old.budget ≡ 2 ^ 64 - 1 → result ≢ Err Stop.Nodes }
+        ensures fulls { self.new.fulls ≡ fulls_after self.old.fulls result }
+        ensures diagram { IsDiagram self.new.triples }
+    {
+        let other = self.not(g)?;
+        let n = self.ite(f, other, g)?;
+        Ok(n)
+    }
+
+    /// Whether the node is 1 at some assignment; if so, `into` becomes the least that makes it so, its i-th bit for
+    /// the level at place i: 0 before 1, and the first level weighs most. Else `into` is kept.
+    pub fn least_true(&self, f: Node, levels: &[u32], into: &mut [bool]) -> bool
+        requires node { IsNode self.now.triples f.0 }
+        requires rise { IsStrictlyIncreasing levels.now }
+        requires support { DependsOn self.now.triples f.0 levels.now }
+        requires as_many { length into.old ≡ length levels.now }
+        ensures some { IsTrue result ↔ (f.0 ≢ 0) }
+        ensures none { f.0 ≡ 0 → into.new ≡ into.old }
+        ensures least { f.0 ≢ 0 → IsLeastTrue self.now.triples f.0 levels.now into.new }
+    {
+        let _count = self.count();
+        if f.0 == 0 {
+            return false;
+        }
+        let mut n = f;
+        for (i, level) in levels.iter().enumerate() {
+            let (bit, next) = self.least_side(n, *level);
+            into[i] = bit;
+            n = next;
+        }
+        true
+    }
+
+    // The bit that the least assignment has at the first level on which the node may depend, and the node at that
+    // bit.
+    fn least_side(&self, n: Node, level: u32) -> (bool, Node)
+        requires node { IsNode self.now.triples n.0 }
+        requires some { n.0 ≢ 0 }
+        requires above { level ≤ level_of self.now.triples n.0 }
+        ensures side { IsLeastSide self.now.triples n.0 level result.0 result.1.0 }
+    {
+        let _count = self.count();
+        match self.dd.parts(n) {
+            Some((at, lo, hi)) if at == level => {
+                if lo.0 == 0 {
+                    return (true, hi);
+                }
+                (false, lo)
+            }
+            _ => (false, n),
+        }
     }
 
     // The level of a node, above all levels for the constants.
