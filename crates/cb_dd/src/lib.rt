@@ -79,6 +79,15 @@ impl Model for DdMark {
     ghost inverse = { λ n. record { count = n } };
 }
 
+impl DdMark {
+    /// How many nodes there were, the constants left out.
+    pub fn count(&self) -> usize
+        ensures { result ≡ self.now }
+    {
+        self.count
+    }
+}
+
 impl Dd {
     /// A store with no nodes but the constants, that will hold at most `budget` others.
     pub fn new(alloc: Global, budget: usize) -> Result<Dd, AllocError>
