@@ -9,3 +9,5 @@ pub mod Decided
 pub mod Shapes
 pub mod Fixed
 pub mod OneReading
+pub mod OpenTrees
+pub mod OneShape

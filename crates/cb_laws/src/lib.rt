@@ -1,7 +1,7 @@
 //! Laws of the definitions: each is the contract of a function that does nothing.
 #![tactic(auto)]
 
-ghost use Rattle.cb_laws.specs.Laws.{SolvableByTables, SolvableDecided, SolvableByTablesBelow, ReadyStays, StepDetermined, RunDetermined, FormDenotes, OneValuation, ClausesAreOne, QueriesAreOne};
+ghost use Rattle.cb_laws.specs.Laws.{SolvableByTables, SolvableDecided, SolvableByTablesBelow, ReadyStays, StepDetermined, RunDetermined, FormDenotes, OneValuation, ShapeIsOne, ClausesAreOne, QueriesAreOne};
 
 /// Boolean equations are solvable exactly where they have a solution in the algebra (Boole).
 pub fn solvable_by_tables()
@@ -52,4 +52,9 @@ pub fn clauses_are_one()
 /// A list of tokens is read as one list of queries at most.
 pub fn queries_are_one()
     ensures { QueriesAreOne }
+{}
+
+/// The shape of terms under solvable equations is one.
+pub fn shape_is_one()
+    ensures { ShapeIsOne }
 {}
