@@ -11,3 +11,4 @@ pub mod Fixed
 pub mod OneReading
 pub mod OpenTrees
 pub mod OneShape
+pub mod OneLine
