@@ -12,3 +12,5 @@ pub mod RoomRow
 pub mod OnlyNo
 pub mod CircuitRows
 pub mod FileRows
+pub mod LexRow
+pub mod TextRows

@@ -12,3 +12,4 @@ pub mod QueryExamples
 pub mod RoomExamples
 pub mod CircuitExamples
 pub mod FileExamples
+pub mod TextExamples

@@ -5,6 +5,7 @@ ghost use Rattle.cb_rows.specs.CircuitExamples.{CircuitExamples};
 ghost use Rattle.cb_rows.specs.FileExamples.{FileExamples};
 ghost use Rattle.cb_rows.specs.QueryExamples.{QueryExamples};
 ghost use Rattle.cb_rows.specs.RoomExamples.{RoomExamples};
+ghost use Rattle.cb_rows.specs.TextExamples.{TextExamples};
 
 /// Worked circuits: gates, flattening, comparisons and the generated adder.
 pub fn circuit_examples()
@@ -24,4 +25,9 @@ pub fn query_examples()
 /// Worked numbers of the bounds on nodes, and what they allow.
 pub fn room_examples()
     ensures { RoomExamples }
+{}
+
+/// Worked texts: tokens, clauses, nestings and faults.
+pub fn text_examples()
+    ensures { TextExamples }
 {}
