@@ -123,7 +123,7 @@ bits_are a o [] = refl
 bits_are a o (n ∷ ns) = ap (λ x. x ∷ map (expr_value a o.bits) (map expr.Var ns)) (value-var a o.bits n) ∙ ap (λ xs. o.bits n ∷ xs) (bits_are a o ns)
 
 mutual
-  value_closed : (a : Bits) (o : Valuation) (p : Plain) → tree_value a o (closed p) ≡ plain_value o p
+  pub value_closed : (a : Bits) (o : Valuation) (p : Plain) → tree_value a o (closed p) ≡ plain_value o p
   value_closed a o (ALeaf n) = value-leaf a o (expr.Var n) ∙ ap Bit (value-var a o.bits n)
   value_closed a o (ABus ns t) = value-bus a o (map expr.Var ns) t ∙ ap (λ xs. Word (xs ++ tail_of o t)) (bits_are a o ns)
   value_closed a o (AVar n) = value-term a o n

@@ -14,3 +14,6 @@ pub mod CircuitRows
 pub mod FileRows
 pub mod LexRow
 pub mod TextRows
+pub mod TwoWokenRow
+pub mod TwoRulesRow
+pub mod WideRow
