@@ -17,3 +17,4 @@ pub mod TextRows
 pub mod TwoWokenRow
 pub mod TwoRulesRow
 pub mod WideRow
+pub mod OutputRows

@@ -29,7 +29,7 @@ two_lexed =
     (token 1 kind.Dot _ (longest _ 1 _ (omega arith) refl refl) tt refl ended)))))))
 
 -- a primary term as a chain without further operands
-alone : {ts us : List Token} {x : Form} (op : Op) → Reads Unary ts us (one x) → Reads (Chain op) ts us (one x)
+pub alone : {ts us : List Token} {x : Form} (op : Op) → Reads Unary ts us (one x) → Reads (Chain op) ts us (one x)
 alone {us = us} {x = x} Star r = a_chain us x Last r no_operand refl
 alone {us = us} {x = x} Hash r = a_chain us x Last (a_chain {op = Star} us x Last r no_operand refl) no_operand refl
 alone {us = us} {x = x} Plus r = a_chain us x Last (a_chain {op = Hash} us x Last (a_chain {op = Star} us x Last r no_operand refl) no_operand refl) no_operand refl
@@ -38,7 +38,7 @@ two_read : ReadsAll ReadsClause two_lines_tokens two_clauses
 two_read = one_more _ (fact _ (a_compound _ (one (Integer (pos 0))) (inl refl) refl (exprs _ (alone Plus (a_prim (an_integer refl))) no_comma) refl refl) refl refl)
     (one_more [] (fact _ (an_atom (inl refl) refl) refl refl) no_more)
 
-shallow : (xs : List ℕ) → list_all (λ n. nat_lt n 257) xs ≡ true → All (λ n. n < 257) xs
+pub shallow : (xs : List ℕ) → list_all (λ n. nat_lt n 257) xs ≡ true → All (λ n. n < 257) xs
 shallow [] h = All-nil (λ n. n < 257)
 shallow (x ∷ xs) h = All-cons (λ n. n < 257) x xs (less x (and_true _ _ h).0) (shallow xs (and_true _ _ h).1)
   where
@@ -156,7 +156,7 @@ wrong_second = record {
 }
 
 -- no token of a shallow text is too deep
-no_deep : (ts : List Token) (k : ℕ) → list_all (λ n. nat_lt n 257) (nestings (0 ∷ []) ts) ≡ true → FirstDeep ts k → ⊥
+pub no_deep : (ts : List Token) (k : ℕ) → list_all (λ n. nat_lt n 257) (nestings (0 ∷ []) ts) ≡ true → FirstDeep ts k → ⊥
 no_deep ts k h f = let l : get_or (nestings (0 ∷ []) ts) k 0 < 257 = less_at (nestings (0 ∷ []) ts) k h in let e = f.deep in omega arith
   where
     less : (n : ℕ) → nat_lt n 257 ≡ true → n < 257
@@ -217,7 +217,7 @@ before_paren t l i us f h k (inr v) =
 call_paren : {t l i : Token} {us : List Token} {f : Forms} → l.kind ≡ kind.LeftParen → i.kind ≡ kind.Integer (pos 0) → Reads Call (t ∷ l ∷ i ∷ []) us f → head_kind us ≡ kind.LeftParen
 call_paren {t = t} {l = l} {i = i} {us = us} {f = f} h k r = before_paren t l i us f h k (call_view r)
 
-not_open : {t l i : Token} {us : List Token} {c : FormClause} → t.kind ≡ kind.Atom → l.kind ≡ kind.LeftParen → i.kind ≡ kind.Integer (pos 0) →
+pub not_open : {t l i : Token} {us : List Token} {c : FormClause} → t.kind ≡ kind.Atom → l.kind ≡ kind.LeftParen → i.kind ≡ kind.Integer (pos 0) →
     ReadsClause (t ∷ l ∷ i ∷ []) us c → ⊥
 not_open h k j (directive d n a r e o) = let z : kind.Atom ≡ kind.Neck = sym h ∙ n in cc
 not_open h k j (fact d r e o) = let z : kind.Dot ≡ kind.LeftParen = sym e ∙ call_paren k j r in cc

@@ -16,3 +16,4 @@ pub mod TwoWokenRow
 pub mod TwoRulesRow
 pub mod WideRow
 pub mod QueryExamples
+pub mod OutputExamples

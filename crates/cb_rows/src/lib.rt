@@ -3,6 +3,7 @@
 
 ghost use Rattle.cb_rows.specs.CircuitExamples.{CircuitExamples};
 ghost use Rattle.cb_rows.specs.FileExamples.{FileExamples};
+ghost use Rattle.cb_rows.specs.OutputExamples.{OutputExamples};
 ghost use Rattle.cb_rows.specs.QueryExamples.{QueryExamples};
 ghost use Rattle.cb_rows.specs.RoomExamples.{RoomExamples};
 ghost use Rattle.cb_rows.specs.TextExamples.{TextExamples};
@@ -15,6 +16,11 @@ pub fn circuit_examples()
 /// Worked files: words, directives, sorts, facts and their refusals.
 pub fn file_examples()
     ensures { FileExamples }
+{}
+
+/// Whole runs of the program, from its words and the bytes that it reads to its text and its outcome.
+pub fn output_examples()
+    ensures { OutputExamples }
 {}
 
 /// Worked queries with the lines that they print.
