@@ -1,0 +1,4 @@
+pub mod Written
+pub mod Shapes
+pub mod Facts
+pub mod Numbers
