@@ -1,13 +1,12 @@
 -- The reading of the two facts, place by place.
-use Rattle.std.proofs.Common.{◌≡◌, ◌≢◌, ℕ, zero, suc, ◌+◌, ◌≤◌, ◌<◌, List, [], ◌∷◌, ◌++◌, map, length, drop, codes, refl, sym, ◌∙◌, ap, subst, arith, append_assoc, length-append, length-drop, Bor}
+use Rattle.std.proofs.Common.{◌≡◌, ◌≢◌, ℕ, suc, ◌+◌, List, [], ◌∷◌, ◌++◌, map, length, drop, codes, refl, sym, ◌∙◌, ap, subst, arith, append_assoc, length-drop, Bor}
 use Rattle.std.proofs.Math.Seq.{drop-length}
 use Rattle.std.proofs.lemmas.List.{append-nil}
-use Rattle.cb_model.specs.declared.Kind.{Kind}
 use Rattle.cb_model.specs.declared.Kind.TheVariants as kind
 use Rattle.cb_model.specs.Bits.{Each}
 use Rattle.cb_model.specs.Text.{Text}
 use Rattle.cb_model.specs.Circuits.{Module, Instance}
-use Rattle.cb_model.specs.FirstForm.{Word, Name, Net, Mark, with_commas, list_words, nets_words, instance_words, fact_words, module_words, PortPair, PairSpec, pair_words, spec_words}
+use Rattle.cb_model.specs.FirstForm.{Word, Name, Mark, with_commas, list_words, nets_words, instance_words, fact_words, module_words, PortPair, PairSpec, pair_words, spec_words}
 use Rattle.cb_model.specs.Grammar.{Op, Plus, Hash, Star, op_kind}
 use Rattle.cb_lex.specs.declared.Token.{Token}
 use Rattle.cb_circ.specs.declared.stop.Stop.{Stop}
@@ -134,6 +133,7 @@ pairs-same (x ∷ xs) (y ∷ ys) e =
     op-same Hash Star e = absurd (cc)
     op-same Star Plus e = absurd (cc)
     op-same Star Hash e = absurd (cc)
+
     pair-same : (x y : PortPair) → pair_words x ≡ pair_words y → x ≡ y
     pair-same x y e =
         let l : x.left ≡ y.left = cc in

@@ -1,8 +1,6 @@
 -- Instances in the first form, and that their circuit is sound.
-use Rattle.std.proofs.Common.{◌≡◌, ◌≢◌, ℕ, zero, suc, ◌+◌, ◌<◌, ◌≤◌, ◌^◌, Bool, true, false, List, [], ◌∷◌, ◌++◌, map, length, Option, Some, None, unwrap_or, position, bytes_eq, Contains, codes, refl, sym, ◌∙◌, ap, subst, ◌⊎◌, inl, inr, arith, length-append}
+use Rattle.std.proofs.Common.{◌≡◌, ◌≢◌, ℕ, suc, ◌+◌, ◌<◌, ◌^◌, true, List, [], ◌∷◌, ◌++◌, map, length, Contains, codes, refl, sym, ◌∙◌, ap, subst, inl, inr, arith, length-append}
 use Rattle.std.specs.List.{flat_map}
-use Rattle.cb_model.specs.declared.Gate.{Gate}
-use Rattle.cb_model.specs.declared.Circuit.{Circuit}
 use Rattle.cb_model.specs.Text.{Text}
 use Rattle.cb_model.specs.Bits.{Each}
 use Rattle.cb_model.specs.Circuits.{Instance, pins_of, Ordered}
@@ -10,9 +8,8 @@ use Rattle.cb_model.specs.Sound.{IsSound}
 use Rattle.cb_model.specs.FirstForm.{IsPairGate, DrivenInOrder, driven_nets}
 use Rattle.cb_circ.specs.declared.items.PairGate.{PairGate}
 use Rattle.cb_circ.specs.Shapes.{instance_of}
-use Rattle.cb_circ.specs.Numbers.{number, IsPart, part_kind, numbered, Fits, AllFit}
+use Rattle.cb_circ.specs.Numbers.{number, IsPart, part_kind, numbered, AllFit}
 use Rattle.cb_circ.proofs.Places.{Contains-cons, position-Some, position-Contains}
-
 
 -- ---- facts of each element
 

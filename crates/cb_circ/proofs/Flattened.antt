@@ -1,19 +1,15 @@
 -- The flattened circuit of a module of gates with two inputs.
-use Rattle.std.proofs.Common.{◌≡◌, ◌≢◌, ℕ, zero, suc, ◌+◌, ◌<◌, ◌≤◌, Bool, true, false, List, [], ◌∷◌, ◌++◌, map, length, get_or, Option, Some, None, unwrap_or, position, bytes_eq, Contains, codes, refl, sym, ◌∙◌, ap, subst, ◌⊎◌, inl, inr, arith, length-append, append_assoc}
+use Rattle.std.proofs.Common.{◌≡◌, ℕ, suc, ◌+◌, Bool, true, false, List, [], ◌∷◌, ◌++◌, map, length, Option, Some, None, unwrap_or, position, bytes_eq, Contains, refl, sym, ◌∙◌, ap, subst, inl, inr, arith, length-append, append_assoc}
 use Rattle.std.specs.List.{flat_map}
-use Rattle.std.proofs.lemmas.Grind.{common_steps}
-use Rattle.cb_model.specs.declared.GateKind.{GateKind}
 use Rattle.cb_model.specs.declared.Gate.{Gate}
-use Rattle.cb_model.specs.declared.Circuit.{Circuit}
 use Rattle.cb_model.specs.Text.{Text}
 use Rattle.cb_model.specs.Bits.{Each}
-use Rattle.cb_model.specs.Circuits.{Module, Instance, Net, In, Own, Flat, Placed, gate_flat, placed_from, part_of, pin_of, outward, drive_pin, drive, driver_within, own_gates, flat_from, flat, net_number, gates_from, circuit_of}
-use Rattle.cb_model.specs.FirstForm.{IsPairGate, driven_nets}
+use Rattle.cb_model.specs.Circuits.{Module, Net, In, Own, Flat, Placed, gate_flat, placed_from, part_of, pin_of, drive_pin, drive, driver_within, own_gates, flat_from, flat, net_number, gates_from, circuit_of}
+use Rattle.cb_model.specs.FirstForm.{driven_nets}
 use Rattle.cb_circ.specs.declared.items.PairGate.{PairGate}
 use Rattle.cb_circ.specs.Shapes.{instance_of}
-use Rattle.cb_circ.specs.Numbers.{number, IsPart, part_kind, numbered, Fits, AllFit}
-use Rattle.cb_circ.proofs.Places.{behind, here_or, Contains-left, position-cons, position-append-found, position-append-lost, position-Some, position-None, position-Contains}
-
+use Rattle.cb_circ.specs.Numbers.{number, IsPart, part_kind, numbered, AllFit}
+use Rattle.cb_circ.proofs.Places.{behind, here_or, Contains-left, position-cons, position-append-found, position-append-lost, position-Contains}
 
 part_of-pair : (x : Text) (n : ℕ) → IsPart x → part_of [] x n ≡ gate_flat (part_kind x) n
 part_of-pair x n (inl e) = subst (λ y. part_of [] y n ≡ gate_flat (part_kind y) n) (sym e) refl

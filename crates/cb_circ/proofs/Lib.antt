@@ -7,3 +7,4 @@ pub mod ListSteps
 pub mod FactSteps
 pub mod NetSteps
 pub mod NumberSteps
+pub mod FirstSteps

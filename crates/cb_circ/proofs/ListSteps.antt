@@ -1,6 +1,5 @@
 -- The exits of the reading of a list.
-use Rattle.std.proofs.Common.{◌≡◌, ◌≢◌, ℕ, zero, suc, ◌+◌, ◌≤◌, ◌<◌, List, [], ◌∷◌, ◌++◌, map, length, drop, refl, sym, ◌∙◌, ap, subst, arith, append_assoc, length-append}
-use Rattle.cb_model.specs.declared.Kind.{Kind}
+use Rattle.std.proofs.Common.{◌≡◌, ◌≢◌, ℕ, ◌+◌, ◌≤◌, List, [], ◌∷◌, ◌++◌, map, length, drop, refl, sym, ◌∙◌, ap, subst}
 use Rattle.cb_model.specs.declared.Kind.TheVariants as kind
 use Rattle.cb_model.specs.Bits.{Each}
 use Rattle.cb_model.specs.Text.{Text}
@@ -8,7 +7,7 @@ use Rattle.cb_model.specs.FirstForm.{Word, Mark}
 use Rattle.cb_lex.specs.declared.Token.{Token}
 use Rattle.cb_circ.specs.declared.stop.Close.{Close}
 use Rattle.cb_circ.specs.declared.stop.Close.TheVariants as close
-use Rattle.cb_circ.specs.Written.{words, texts, words_at, kind_of, after_kinds, after_words, listed, HasShape, LacksShape, TookItem, NoItem, TookList, NoList}
+use Rattle.cb_circ.specs.Written.{words, texts, words_at, kind_of, after_kinds, after_words, HasShape, LacksShape, TookItem, NoItem, TookList, NoList}
 use Rattle.cb_circ.proofs.Listed.{fore, fore-push, fore-last, fore_left, first_left, first_item}
 
 -- the words of tokens that close a list

@@ -1,11 +1,9 @@
 -- Lists of items that all have the same number of words.
-use Rattle.std.proofs.Common.{◌≡◌, ◌≢◌, ℕ, zero, suc, ◌+◌, List, [], ◌∷◌, ◌++◌, map, length, refl, sym, ◌∙◌, ap, subst, arith, append_assoc, length-append}
-use Rattle.cb_model.specs.declared.Kind.{Kind}
+use Rattle.std.proofs.Common.{◌≡◌, ◌≢◌, ℕ, List, [], ◌∷◌, ◌++◌, length, refl, sym, ◌∙◌, ap, arith, append_assoc}
 use Rattle.cb_model.specs.declared.Kind.TheVariants as kind
 use Rattle.cb_model.specs.Bits.{Each}
-use Rattle.cb_model.specs.FirstForm.{Word, Mark, with_commas, behind_commas}
+use Rattle.cb_model.specs.FirstForm.{Word, Mark, behind_commas}
 use Rattle.cb_circ.specs.Written.{listed}
-
 
 -- each item with a comma behind it, and what follows
 abbrev pub fore : List (List Word) → List Word → List Word

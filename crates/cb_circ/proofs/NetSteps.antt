@@ -1,10 +1,10 @@
 -- Nets under the numbers of their places, as a table of names keeps them.
-use Rattle.std.proofs.Common.{◌≡◌, ◌≢◌, ℕ, zero, suc, ◌+◌, ◌<◌, ◌≤◌, Bool, true, false, not, cond, List, [], ◌∷◌, ◌++◌, map, length, Option, Some, None, unwrap_or, position, bytes_eq, Contains, codes, Bor, refl, sym, ◌∙◌, ap, subst, arith, length-append}
+use Rattle.std.proofs.Common.{◌≡◌, ◌≢◌, ℕ, Bool, true, false, not, List, [], ◌∷◌, ◌++◌, map, length, Some, None, unwrap_or, position, bytes_eq, Contains, Bor, refl, sym, ◌∙◌, ap, subst}
 use Rattle.std.specs.Bool.{if◌then◌else◌}
 use Rattle.std.specs.List.{list_any}
 use Rattle.std.proofs.lemmas.List.{map-append, length-map}
 use Rattle.cb_model.specs.Text.{Text}
-use Rattle.cb_circ.specs.Numbers.{number, IsNew, AddsNet}
+use Rattle.cb_circ.specs.Numbers.{number}
 use Rattle.cb_circ.proofs.Places.{bytes_eq-refl, position-map, position-Some, position-None, list_any-Contains, list_any-lost, list_any-map}
 
 abbrev pub names_of : List (Bor Text) → List Text

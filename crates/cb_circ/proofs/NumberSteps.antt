@@ -1,5 +1,5 @@
 -- The loops that number nets, gates and expressions: what is left of the list behind some of it.
-use Rattle.std.proofs.Common.{◌≡◌, ◌≢◌, ◌↔◌, ℕ, zero, suc, ◌+◌, ◌<◌, ◌≤◌, Bool, true, false, not, ◌&&◌, ◌⊎◌, inl, inr, List, [], ◌∷◌, ◌++◌, map, length, get_or, drop, drop-cons, add-one, bytes_eq, Contains, codes, Bor, refl, sym, ◌∙◌, ap, subst, arith, length-append, append_assoc}
+use Rattle.std.proofs.Common.{◌≡◌, ◌↔◌, ℕ, suc, ◌+◌, ◌<◌, ◌≤◌, Bool, true, false, not, ◌&&◌, ◌⊎◌, inl, inr, List, [], ◌∷◌, ◌++◌, map, length, get_or, drop, drop-cons, bytes_eq, Contains, codes, Bor, refl, sym, ◌∙◌, ap, subst, arith, length-append, append_assoc}
 use Rattle.std.specs.List.{list_any}
 use Rattle.std.proofs.Math.Seq.{drop-length}
 use Rattle.std.proofs.lemmas.List.{append-nil}
@@ -13,12 +13,9 @@ use Rattle.cb_model.specs.Circuits.{Instance}
 use Rattle.cb_model.specs.FirstForm.{driven_nets, PortPair, op_expr, pair_expr}
 use Rattle.cb_circ.specs.declared.items.PairGate.{PairGate}
 use Rattle.cb_circ.specs.declared.items.Pair.{Pair}
-use Rattle.cb_circ.specs.declared.stop.Stop.{Stop}
-use Rattle.cb_circ.specs.Written.{Refuses}
 use Rattle.cb_circ.specs.Shapes.{instance_of, pair_of, op_of}
 use Rattle.cb_circ.specs.Numbers.{number, IsPart, part_kind, numbered, IsNew, AddsNet, Fits, AllFit, NumbersGate, NumbersGates, NumbersNets, AreNew, NumbersPairs, NoPairs}
 use Rattle.cb_circ.proofs.Places.{Contains-cons, Contains-here, Contains-there, list_any-Contains, list_any-lost, bytes_eq-same}
-use Rattle.cb_circ.proofs.Firsts.{Each-left}
 use Rattle.cb_circ.proofs.NetSteps.{names_of}
 
 drop-next : {A : Type 0} (xs : List A) (i : ℕ) (d : A) → i < length xs → drop i xs ≡ get_or xs i d ∷ drop (i + 1) xs
@@ -48,7 +45,7 @@ module _ (nets : List Text) (names : List (Bor Text)) (i : ℕ) (ns : List ℕ) 
           (λ e. so_far.there.1 (subst (Each (Contains nets)) (sym next) (there, e))),
         );
         numbers = moved (map (number nets) (names_of names)) ns more (map (number nets) (names_of (drop (i + 1) names))) n
-        (so_far.numbers ∙ ap (λ l. ns ++ map (number nets) l) next ∙ ap (λ m. ns ++ (m ∷ map (number nets) (names_of (drop (i + 1) names)))) (sym is)) grown;
+            (so_far.numbers ∙ ap (λ l. ns ++ map (number nets) l) next ∙ ap (λ m. ns ++ (m ∷ map (number nets) (names_of (drop (i + 1) names)))) (sym is)) grown;
       }
 
   pub no_number : (d : Bor Text) → i < length names → (Contains nets (get_or names i d).now → ⊥) → (ks : List ℕ) → NumbersNets nets (names_of names) ks → ⊥
@@ -88,7 +85,7 @@ module _ (old : List Text) (all : List PairGate) (i : ℕ) (nets : List Text) (m
           (λ f. so_far.fit.1 (subst (AllFit nets) (sym next) (one.fits, subst (λ l. AllFit l rest) one.nets f))),
         );
         gates = moved (numbered old (instances all)) made more (numbered new rest) g
-        (so_far.gates ∙ ap (λ l. made ++ numbered nets l) next ∙ ap (λ y. made ++ (y ∷ numbered (nets ++ x.outs) rest)) (sym one.gate) ∙ ap (λ l. made ++ (g ∷ numbered l rest)) (sym one.nets)) grown;
+            (so_far.gates ∙ ap (λ l. made ++ numbered nets l) next ∙ ap (λ y. made ++ (y ∷ numbered (nets ++ x.outs) rest)) (sym one.gate) ∙ ap (λ l. made ++ (g ∷ numbered l rest)) (sym one.nets)) grown;
         nets_are = nets_next;
         room = let r = so_far.room in let e = ap length one.nets in omega (arith, length-append nets x.outs);
       }
@@ -126,7 +123,7 @@ NoneOf nets xs = Each (λ x. Contains nets x → ⊥) xs
 Contains-append : (x : Text) (xs ys : List Text) → Contains (xs ++ ys) x → Contains xs x ⊎ Contains ys x
 Contains-append x [] ys h = inr h
 Contains-append x (y ∷ xs) ys h = elim (Contains-cons x y (xs ++ ys) h) [
-  inl e ↦ inl (subst (λ w. Contains (w ∷ xs) x) (sym e) (Contains-here x xs))
+  | inl e ↦ inl (subst (λ w. Contains (w ∷ xs) x) (sym e) (Contains-here x xs))
   | inr k ↦ elim (Contains-append x xs ys k) [ inl a ↦ inl (Contains-there x y xs a) | inr b ↦ inr b ]
 ]
 
@@ -137,7 +134,7 @@ Contains-right x (y ∷ xs) ys h = Contains-there x y (xs ++ ys) (Contains-right
 Contains-front : (x : Text) (xs ys : List Text) → Contains xs x → Contains (xs ++ ys) x
 Contains-front x [] ys h = absurd (omega arith)
 Contains-front x (y ∷ xs) ys h = elim (Contains-cons x y xs h) [
-  inl e ↦ subst (λ w. Contains (w ∷ (xs ++ ys)) x) (sym e) (Contains-here x (xs ++ ys))
+  | inl e ↦ subst (λ w. Contains (w ∷ (xs ++ ys)) x) (sym e) (Contains-here x (xs ++ ys))
   | inr k ↦ Contains-there x y (xs ++ ys) (Contains-front x xs ys k)
 ]
 
@@ -148,7 +145,7 @@ none_front nets x (y ∷ xs) h = ((λ c. h.0 (Contains-front y nets (x ∷ []) c
 none_absent : (nets : List Text) (x : Text) (xs : List Text) → NoneOf (nets ++ x ∷ []) xs → Contains xs x → ⊥
 none_absent nets x [] h c = omega arith
 none_absent nets x (y ∷ xs) h c = elim (Contains-cons x y xs c) [
-  inl e ↦ h.0 (Contains-right y nets (x ∷ []) (subst (λ w. Contains (x ∷ []) w) (sym e) (Contains-here x [])))
+  | inl e ↦ h.0 (Contains-right y nets (x ∷ []) (subst (λ w. Contains (x ∷ []) w) (sym e) (Contains-here x [])))
   | inr k ↦ none_absent nets x xs h.1 k
 ]
 
@@ -247,7 +244,7 @@ module _ (ports : List Text) (all : List Pair) (i : ℕ) (es : List Expr) (so_fa
           (λ f. so_far.right.1 (subst (Each (RightPort ports)) (sym next) (right.0, f))),
         );
         expressions = moved (map (pair_expr ports) (pairs all)) es more (map (pair_expr ports) rest) e
-        (so_far.expressions ∙ ap (λ l. es ++ map (pair_expr ports) l) next ∙ ap (λ x. es ++ (x ∷ map (pair_expr ports) rest)) (sym same)) grown;
+            (so_far.expressions ∙ ap (λ l. es ++ map (pair_expr ports) l) next ∙ ap (λ x. es ++ (x ∷ map (pair_expr ports) rest)) (sym same)) grown;
       }
 
   pub no_left : (d : Pair) → i < length all → (Contains ports (get_or all i d).left.now → ⊥) → NoPairs ports (pairs all)

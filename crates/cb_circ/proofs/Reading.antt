@@ -1,11 +1,11 @@
 -- Tokens by their kinds, and their words.
-use Rattle.std.proofs.Common.{◌≡◌, ◌≢◌, ℕ, zero, suc, ◌+◌, ◌<◌, ◌≤◌, Bool, true, false, IsTrue, ◌↔◌, List, [], ◌∷◌, ◌++◌, map, length, get_or, drop, drop-drop, Option, Some, None, refl, sym, ◌∙◌, ap, subst, arith, add-one, drop-cons, length-drop, length-append, append_assoc}
+use Rattle.std.proofs.Common.{◌≡◌, ℕ, zero, suc, ◌+◌, ◌<◌, ◌≤◌, ◌↔◌, List, [], ◌∷◌, ◌++◌, map, length, get_or, drop, drop-drop, Some, None, refl, sym, ◌∙◌, ap, subst, arith, drop-cons, length-drop}
 use Rattle.std.specs.Prelude.{slice_get}
 use Rattle.std.proofs.lemmas.List.{drop-map, get_or-drop}
 use Rattle.cb_model.specs.declared.Kind.{Kind}
 use Rattle.cb_model.specs.declared.Kind.TheVariants as kind
 use Rattle.cb_model.specs.Text.{Text}
-use Rattle.cb_model.specs.FirstForm.{Word, Name, Net, Mark, word_of, word_with}
+use Rattle.cb_model.specs.FirstForm.{Word, word_of, word_with}
 use Rattle.cb_lex.specs.declared.Token.{Token}
 use Rattle.cb_lex.specs.View.{token_of, tokens_of}
 use Rattle.cb_circ.specs.Written.{words, texts, Starts, words_at, kind_of, HasShape, LacksShape}

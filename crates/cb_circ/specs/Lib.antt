@@ -2,3 +2,4 @@ pub mod Written
 pub mod Shapes
 pub mod Facts
 pub mod Numbers
+pub mod First

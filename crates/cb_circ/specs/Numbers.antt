@@ -3,11 +3,13 @@ use Rattle.std.specs.Prelude.{◌≡◌, ◌≢◌, ◌⊎◌, ℕ, true, List, 
 use Rattle.cb_model.specs.declared.GateKind.{GateKind}
 use Rattle.cb_model.specs.declared.GateKind.TheVariants as gate
 use Rattle.cb_model.specs.declared.Gate.{Gate}
+use Rattle.cb_model.specs.declared.Circuit.{Circuit}
 use Rattle.cb_model.specs.Bits.{Each}
 use Rattle.cb_model.specs.declared.Expr.{Expr}
 use Rattle.cb_model.specs.Text.{Text, all_different}
-use Rattle.cb_model.specs.Circuits.{Instance, kind_named, gate_names}
-use Rattle.cb_model.specs.FirstForm.{IsPairGate, driven_nets, PortPair, pair_expr}
+use Rattle.cb_model.specs.Circuits.{Instance, Module, kind_named, gate_names, flat, circuit_of}
+use Rattle.cb_model.specs.Sound.{IsSound}
+use Rattle.cb_model.specs.FirstForm.{IsPairGate, driven_nets, PortPair, PairSpec, pair_expr}
 
 -- the number of a net
 abbrev pub number : List Text → Text → ℕ
@@ -80,3 +82,24 @@ pub record NumbersPairs (ports : List Text) (ps : List PortPair) (es : List Expr
 -- no such pairs
 abbrev pub NoPairs : List Text → List PortPair → Type 0
 NoPairs ports ps = Each (λ p. Contains ports p.left) ps → Each (λ p. Contains ports p.right) ps → ⊥
+
+-- a module in the first form, but for its name and the shape of its lists
+pub record IsWellMade (m : Module) : Type 0 where
+  pub inputs : AreNew m.inputs
+  pub instances : AllFit m.inputs m.instances
+  pub outputs : Each (Contains (m.inputs ++ driven_nets m.instances)) m.outputs
+
+-- the circuit of such a module
+pub record IsCircuitOf (m : Module) (c : Circuit) : Type 0 where
+  pub well_made : IsWellMade m
+  pub is : c ≡ circuit_of (flat [] m)
+  pub sound : IsSound c
+  pub ports : c.inputs ≡ length m.inputs
+  pub outputs : length c.outputs ≡ length m.outputs
+
+-- the two facts have the name, a port for each input and a pair for each output
+pub record Matches (name : Text) (m : Module) (s : PairSpec) : Type 0 where
+  pub module_name : m.name ≡ name
+  pub spec_name : s.name ≡ name
+  pub ports : length s.ports ≡ length m.inputs
+  pub pairs : length s.pairs ≡ length m.outputs

@@ -51,10 +51,7 @@ fn name_in_fact<'s>(tokens: &[Token<'s>], at: usize, head: &[u8]) -> Result<&'s 
 }
 
 /// The module fact that begins the text, and the place behind it.
-fn module_fact<'s>(
-    alloc: Global,
-    tokens: &[Token<'s>],
-) -> Result<(ModuleFact<'s>, usize), Stop>
+fn module_fact<'s>(alloc: Global, tokens: &[Token<'s>]) -> Result<(ModuleFact<'s>, usize), Stop>
     ensures { MatchResult result (λ r. TookModule tokens.now r.0 r.1) (λ e. Refuses e (NoModule tokens.now)) }
 {
     let name = name_in_fact(tokens, 0, b"module")?;

@@ -2,8 +2,11 @@
 #![tactic(auto)]
 
 mod facts;
+mod first;
 mod items;
 mod lists;
 mod nets;
 mod numbering;
 mod stop;
+
+pub use first::{First, first_form};

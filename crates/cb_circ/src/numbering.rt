@@ -29,11 +29,7 @@ fn pair_gate(part: &[u8]) -> Result<GateKind, Stop>
 }
 
 /// The gate of an instance, whose output goes behind the nets.
-fn gate<'s>(
-    alloc: Global,
-    nets: &mut Nets<'s>,
-    instance: &PairGate<'s>,
-) -> Result<Gate, Stop>
+fn gate<'s>(alloc: Global, nets: &mut Nets<'s>, instance: &PairGate<'s>) -> Result<Gate, Stop>
     requires { length nets.old < 2 ^ 32 }
     ensures { MatchResult result (λ g. NumbersGate nets.old nets.new (instance_of instance.now) g) (λ e. Refuses e (Fits nets.old (instance_of instance.now) → ⊥)) }
 {
@@ -77,11 +73,7 @@ pub(crate) fn table<'s>(alloc: Global, names: &[&'s [u8]]) -> Result<Nets<'s>, S
 }
 
 /// The numbers of nets.
-pub(crate) fn numbers(
-    alloc: Global,
-    nets: &Nets<'_>,
-    names: &[&[u8]],
-) -> Result<Items<u32>, Stop>
+pub(crate) fn numbers(alloc: Global, nets: &Nets<'_>, names: &[&[u8]]) -> Result<Items<u32>, Stop>
     requires { length nets.now ≤ 2 ^ 32 }
     ensures { MatchResult result (λ ns. NumbersNets nets.now (map (λ x. x.now) names.now) ns) (λ e. Refuses e ((ns : List ℕ) → NumbersNets nets.now (map (λ x. x.now) names.now) ns → ⊥)) }
 {

@@ -1,4 +1,4 @@
-use Rattle.std.proofs.Common.{◌≡◌, [], ◌∷◌, ◌++◌, ◌+◌, length, map, ap, subst, sym, ◌∙◌, arith}
+use Rattle.std.proofs.Common.{[], ◌∷◌, ◌+◌, map, ap, subst, sym, ◌∙◌}
 use Rattle.std.proofs.lemmas.List.{map-append}
 use Rattle.cb_circ.specs.Written.{HasShape, LacksShape, TookList}
 use Rattle.cb_circ.proofs.ListSteps.{ReadSoFar, list_ends, list_goes_on, no_list-item, no_list-behind, Each-map}
@@ -33,6 +33,6 @@ items-preserved g c =
     let more = ap (map i.words) c.in_ok-push.ensures ∙ map-append i.words c.items.items (c.in-Some.read.0 ∷ []) in
     record {
       so_far = subst (λ xs. ReadSoFar ts c.args.at xs (c.in-Some.read.1 + 1)) (sym more)
-      (list_goes_on ts c.args.at (map i.words c.items.items) c.items.next (i.words c.in-Some.read.0) c.in-Some.read.1 c.items.invariant.so_far c.in-Some.ensures c.if-not-starts.ensures);
+          (list_goes_on ts c.args.at (map i.words c.items.items) c.items.next (i.words c.in-Some.read.0) c.in-Some.read.1 c.items.invariant.so_far c.in-Some.ensures c.if-not-starts.ensures);
       within = c.if-not-starts.ensures.within;
     }

@@ -1,4 +1,4 @@
-use Rattle.std.proofs.Common.{◌≡◌, [], ◌∷◌, bytes_eq, ap, sym, ◌∙◌}
+use Rattle.std.proofs.Common.{[], ◌∷◌, bytes_eq, ap, sym, ◌∙◌}
 use Rattle.cb_circ.proofs.NetSteps.{net_absent, net_present, net_added, length-names, other_name}
 use Rattle.cb_circ.proofs.nets.Nets.add.Goals as goal
 
