@@ -9,3 +9,6 @@ pub mod Decided
 pub mod Shapes
 pub mod Fixed
 pub mod OneReading
+pub mod OpenTrees
+pub mod OneShape
+pub mod OneLine

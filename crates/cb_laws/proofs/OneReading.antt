@@ -10,7 +10,7 @@ use Rattle.cb_laws.specs.Laws.{ClausesAreOne, QueriesAreOne}
 -- ---- what may follow
 
 -- whether a token goes on with what was read before it
-abbrev goes_on : Sym → Kind → Bool
+abbrev pub goes_on : Sym → Kind → Bool
 goes_on s kind.LeftParen = true
 goes_on (Chain op) kind.Star = true
 goes_on (Chain Plus) kind.Hash = true
@@ -31,11 +31,11 @@ goes_on Commas kind.Comma = true
 goes_on s k = false
 
 -- the next token, if there is one, doesn't
-abbrev Stops : Sym → List Token → Type 0
+abbrev pub Stops : Sym → List Token → Type 0
 Stops s [] = Unit {0}
 Stops s (t ∷ ts) = goes_on s t.kind ≡ false
 
-abbrev head_kind : List Token → Kind
+abbrev pub head_kind : List Token → Kind
 head_kind [] = kind.Bang
 head_kind (t ∷ ts) = t.kind
 
@@ -160,11 +160,11 @@ abbrev PrimView : List Token → List Token → Forms → Type 0
 PrimView [] us f = ⊥
 PrimView (t ∷ ts) us f = PrimBy t.kind t ts us f
 
-abbrev CallFirst : List Token → Type 0
+abbrev pub CallFirst : List Token → Type 0
 CallFirst [] = ⊥
 CallFirst (t ∷ ts) = IsAtom t
 
-call_first : {ts us : List Token} {f : Forms} → Reads Call ts us f → CallFirst ts
+pub call_first : {ts us : List Token} {f : Forms} → Reads Call ts us f → CallFirst ts
 call_first (an_atom a e) = a
 call_first (a_compound r xs a l x p e) = a
 
@@ -218,14 +218,14 @@ unary_view (a_not {t = t} {ts = ts} {us = us} {x = x} h r) = subst (λ k. UnaryB
 unary_view (a_prim {ts = ts} {us = us} {f = f} r) = prim_unary ts us us f f (prim_view r) r
 
 -- a name alone, or a name with its arguments
-abbrev CallView : List Token → List Token → Forms → Type 0
+abbrev pub CallView : List Token → List Token → Forms → Type 0
 CallView [] us f = ⊥
 CallView (t ∷ ts) us f =
     ((us ≡ ts) × (f ≡ one (Name (name_of t) Last))) ⊎
     ((l : Token) × (rest : List Token) × (r : Token) × (xs : Forms) × (ts ≡ l ∷ rest) × (l.kind ≡ kind.LeftParen) × Reads Exprs rest (r ∷ us) xs ×
     (r.kind ≡ kind.RightParen) × (f ≡ one (Name (name_of t) xs)))
 
-call_view : {ts us : List Token} {f : Forms} → Reads Call ts us f → CallView ts us f
+pub call_view : {ts us : List Token} {f : Forms} → Reads Call ts us f → CallView ts us f
 call_view (an_atom a e) = inl (refl, e)
 call_view (a_compound {l = l} {ts = ts} r xs a h x p e) = inr (l, ts, r, xs, refl, h, x, p, e)
 
@@ -294,7 +294,7 @@ no_close h x = let e : starts kind.RightBracket ≡ true = subst (λ k. starts k
 
 -- ---- one reading
 
-abbrev Same : List Token → List Token → Forms → Forms → Type 0
+abbrev pub Same : List Token → List Token → Forms → Forms → Type 0
 Same us us' f f' = (us ≡ us') × (f ≡ f')
 
 kinds_differ : (ts us : List Token) (k l : Kind) → head_kind ts ≡ k → head_kind us ≡ l → ts ≡ us → k ≡ l
@@ -334,7 +334,7 @@ compound_one t l r ts us vs' xs f f' e i way h' (inr v) =
     let c = way (v.2 ∷ vs') v.3 (subst (λ ws. Reads Exprs ws (v.2 ∷ vs') v.3) (sym (ap tail v.4)) v.6) (ap (goes_on Exprs) v.7) in
     (ap tail c.0, i ∙ ap (λ ys. one (Name (name_of t) ys)) c.1 ∙ sym v.8)
 
-one_way : {s : Sym} {ts us us' : List Token} {f f' : Forms} → Reads s ts us f → Reads s ts us' f' → Stops s us → Stops s us' → Same us us' f f'
+pub one_way : {s : Sym} {ts us us' : List Token} {f f' : Forms} → Reads s ts us f → Reads s ts us' f' → Stops s us → Stops s us' → Same us us' f f'
 one_way {us = vs} {us' = vs'} (a_chain {op = op} us x xs r o e) (a_chain us₂ x₂ xs₂ r₂ o₂ e₂) h h' =
     let k : Stops (Operands op) vs = all_stop (Chain op) (Operands op) (chain_operands op) vs h in
     let k' : Stops (Operands op) vs' = all_stop (Chain op) (Operands op) (chain_operands op) vs' h' in
@@ -465,7 +465,7 @@ not_neck : (t : Token) → IsAtom t → t.kind ≡ kind.Neck → ⊥
 not_neck t (inl a) e = let z : kind.Atom ≡ kind.Neck = sym a ∙ e in cc
 not_neck t (inr a) e = let z : kind.Quoted ≡ kind.Neck = sym a ∙ e in cc
 
-one_clause : {ts us us' : List Token} {x y : FormClause} → ReadsClause ts us x → ReadsClause ts us' y → (us ≡ us') × (x ≡ y)
+pub one_clause : {ts us us' : List Token} {x y : FormClause} → ReadsClause ts us x → ReadsClause ts us' y → (us ≡ us') × (x ≡ y)
 one_clause (directive {n = n} {w = w} d h a r e i) (directive d₂ h₂ a₂ r₂ e₂ i₂) =
     let b = one_way r r₂ (ap (goes_on Exprs) e) (ap (goes_on Exprs) e₂) in
     (ap tail b.0, i ∙ ap (g.Directive n.line (name_of w)) b.1 ∙ sym i₂)

@@ -1,7 +1,7 @@
 //! Laws of the definitions: each is the contract of a function that does nothing.
 #![tactic(auto)]
 
-ghost use Rattle.cb_laws.specs.Laws.{SolvableByTables, SolvableDecided, SolvableByTablesBelow, ReadyStays, StepDetermined, RunDetermined, FormDenotes, OneValuation, ClausesAreOne, QueriesAreOne};
+ghost use Rattle.cb_laws.specs.Laws.{SolvableByTables, SolvableDecided, SolvableByTablesBelow, ReadyStays, StepDetermined, RunDetermined, FormDenotes, OneValuation, ShapeIsOne, LineIsOne, RoomIsOne, RoomOfNone, ClausesAreOne, QueriesAreOne};
 
 /// Boolean equations are solvable exactly where they have a solution in the algebra (Boole).
 pub fn solvable_by_tables()
@@ -52,4 +52,24 @@ pub fn clauses_are_one()
 /// A list of tokens is read as one list of queries at most.
 pub fn queries_are_one()
     ensures { QueriesAreOne }
+{}
+
+/// The shape of terms under solvable equations is one.
+pub fn shape_is_one()
+    ensures { ShapeIsOne }
+{}
+
+/// The line of a branch whose equations are solvable is one.
+pub fn line_is_one()
+    ensures { LineIsOne }
+{}
+
+/// A number is below the bound of a solvable branch exactly where it is below the formula at the leaves of its shape.
+pub fn room_is_one()
+    ensures { RoomIsOne }
+{}
+
+/// The bound of a branch without a solution is the formula without leaves.
+pub fn room_of_none()
+    ensures { RoomOfNone }
 {}

@@ -145,3 +145,6 @@ impl<'s> Lexer<'s> {
 pub fn one_token_list()
     ensures { OneTokenList }
 {}
+
+#[cfg(test)]
+mod tests;

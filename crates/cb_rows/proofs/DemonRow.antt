@@ -28,7 +28,7 @@ use Rattle.cb_laws.proofs.Fixed.{first_arg, second_arg, third_arg, first_bit, se
 use Rattle.cb_rows.proofs.TryRow.{shift-leaf}
 use Rattle.cb_rows.specs.DemonRow.{a, var, zero_rule, same_rule, p, args, call, q, names}
 
-shift-var : (k n : ℕ) → shift_expr k (expr.Var n) ≡ expr.Var (k + n)
+pub shift-var : (k n : ℕ) → shift_expr k (expr.Var n) ≡ expr.Var (k + n)
 shift-var k n = ap (shift_expr k) (sym (expr.rolls-Var n)) ∙ fold-roll-Expr Expr (shift_expr_step k) (Expr-F.Var n)
 
 -- the branch behind the call, with the call waiting, after the equation, with the call woken, after the rule, and after its body

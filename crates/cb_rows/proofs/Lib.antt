@@ -12,3 +12,9 @@ pub mod RoomRow
 pub mod OnlyNo
 pub mod CircuitRows
 pub mod FileRows
+pub mod LexRow
+pub mod TextRows
+pub mod TwoWokenRow
+pub mod TwoRulesRow
+pub mod WideRow
+pub mod OutputRows

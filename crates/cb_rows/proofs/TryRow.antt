@@ -40,7 +40,7 @@ calls_zero a ok = record { b = with_bits (λ n. false); sorted = λ n. zero_fits
 calls_one : Solvable p.world (called expr.One).items
 calls_one a ok = record { b = with_bits (λ n. true); sorted = λ n. zero_fits; sat = (simp (shift-leaf, shift-one, tree_values, expr_values) refl, tt) }
 
-answers_one : Solvable p.world (equated expr.One).items
+pub answers_one : Solvable p.world (equated expr.One).items
 answers_one a ok = record {
   b = with_bits (λ n. true);
   sorted = λ n. zero_fits;

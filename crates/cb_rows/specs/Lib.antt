@@ -8,7 +8,12 @@ pub mod BusRow
 pub mod CompoundRow
 pub mod ParameterRow
 pub mod RoomRow
-pub mod QueryExamples
 pub mod RoomExamples
 pub mod CircuitExamples
 pub mod FileExamples
+pub mod TextExamples
+pub mod TwoWokenRow
+pub mod TwoRulesRow
+pub mod WideRow
+pub mod QueryExamples
+pub mod OutputExamples

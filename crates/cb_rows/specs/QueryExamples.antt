@@ -6,7 +6,7 @@ use Rattle.cb_model.specs.Commands.{Max, Only}
 use Rattle.cb_model.specs.Equations.{Sat, Part}
 use Rattle.cb_model.specs.Derivation.{Made, Printed, Whole, Plain, first_branch, waits}
 use Rattle.cb_model.specs.Answers.{IsShape}
-use Rattle.cb_model.specs.Line.{IsLine}
+use Rattle.cb_model.specs.Line.{IsLine, is_wide}
 use Rattle.cb_model.specs.Output.{QuerySays}
 use Rattle.cb_rows.specs.PlainRow as plain
 use Rattle.cb_rows.specs.TryRow as try
@@ -17,6 +17,9 @@ use Rattle.cb_rows.specs.CircuitGoalRow as circuit
 use Rattle.cb_rows.specs.BusRow as bus
 use Rattle.cb_rows.specs.CompoundRow as compound
 use Rattle.cb_rows.specs.ParameterRow as parameter
+use Rattle.cb_rows.specs.TwoWokenRow as two_woken
+use Rattle.cb_rows.specs.TwoRulesRow as two_rules
+use Rattle.cb_rows.specs.WideRow as wide_row
 
 pub record QueryExamples : Type 0 where
   -- `X = a`: one equation step, and an answer
@@ -43,3 +46,10 @@ pub record QueryExamples : Type 0 where
   pub not_one_number : IsShape bus.p.world bus.answer.items bus.args (tree.Bus [] (Some 0) ∷ tree.Var 0 ∷ []) → ⊥
   -- `X = f(Y, [Z|B])`: a compound with a Boolean place and a bus, whose open end stands twice
   pub compound : QuerySays compound.p compound.q compound.names 1 Max (codes "X = f(_1, [_2|_T1]), Y = _1, Z = _2, B = _T1" ∷ codes "end" ∷ []) false
+  -- `p(X), q(X), X = 1`: both goals are woken, and the first of them has no clause
+  pub two_woken : QuerySays two_woken.p two_woken.q two_woken.names 1 Max (codes "no" ∷ []) false
+  -- `d(0)` with the demon rules `d(X) :- fail.` and `d(X).`: the first is taken, and the second isn't tried
+  pub first_rule : QuerySays two_rules.p two_rules.q two_rules.names 1 Max (codes "no" ∷ []) false
+  -- `B = [0, .., 0]` with 4097 zeros; with one less it isn't wide
+  pub wide : QuerySays wide_row.p (wide_row.q 4097) wide_row.names 1 Max (codes "(wide)" ∷ codes "end" ∷ []) false
+  pub not_wide : is_wide (wide_row.shape 4096) ≡ false

@@ -1,12 +1,12 @@
 -- Decimal numbers up to a limit.
-use Rattle.std.proofs.Common.{◌≡◌, ℕ, zero, suc, ◌+◌, ◌-◌, ◌*◌, ◌<◌, ◌≤◌, ◌≢◌, Bool, true, false, not, ◌&&◌, nat_le, ◌==◌, if◌then◌else◌, List, [], ◌∷◌, length, drop, get_or, Option, Some, None, option_and_then, refl, sym, ap, ◌∙◌, arith, ◌⊎◌, inl, inr, rules}
+use Rattle.std.proofs.Common.{◌≡◌, ℕ, suc, ◌+◌, ◌-◌, ◌*◌, ◌<◌, ◌≤◌, ◌≢◌, Bool, true, false, not, ◌&&◌, nat_le, if◌then◌else◌, [], ◌∷◌, length, drop, get_or, Option, Some, None, option_and_then, refl, sym, ap, ◌∙◌, arith, ◌⊎◌, inl, inr}
 use Rattle.std.specs.List.{list_all}
 use Rattle.std.proofs.lemmas.Bool.{cases_Bool, and_parts}
 use Rattle.std.proofs.Math.Seq.{drop-cons}
 use Rattle.std.proofs.lemmas.List.{drop_all}
 use Rattle.std.proofs.lemmas.Grind.{common_steps}
 use Rattle.cb_model.specs.Text.{Text, is_digit}
-use Rattle.cb_model.specs.Tokens.{digits_value, is_number}
+use Rattle.cb_model.specs.Tokens.{digits_value}
 use Rattle.cb_model.specs.Commands.{number_upto, leads_zero}
 use Rattle.cb_top.specs.Words.{digit_upto, digits_upto}
 

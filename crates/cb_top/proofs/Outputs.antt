@@ -1,5 +1,5 @@
 -- What is decided is an output, and what is written begins one.
-use Rattle.std.proofs.Common.{◌≡◌, ◌≢◌, ℕ, ◌≤◌, ◌<◌, List, [], ◌∷◌, ◌++◌, take, drop, length, Option, Some, None, refl, sym, ap, subst, ◌∙◌, ◌⊎◌, inl, inr, append-nil, arith, is_some, Result, Ok, Err, IfOk}
+use Rattle.std.proofs.Common.{◌≡◌, ℕ, ◌<◌, List, [], ◌∷◌, take, drop, length, Option, Some, None, refl, sym, ap, subst, ◌∙◌, inl, inr, append-nil, arith, is_some, Result, Ok, Err, IfOk}
 use Rattle.std.proofs.lemmas.List.{take-append-drop}
 use Rattle.std.proofs.lemmas.Bool.{true≢false}
 use Rattle.std.proofs.lemmas.Option.{same_Some}
@@ -12,13 +12,13 @@ use Rattle.cb_model.specs.declared.Side.{Side}
 use Rattle.cb_model.specs.declared.Side.TheVariants as side
 use Rattle.cb_model.specs.Text.{Text, lines_text, IsPrefix}
 use Rattle.cb_model.specs.Commands.{Command, Check, Run, Verify, Same, Make, Nodes, IsNumber, command_of, file_name}
-use Rattle.cb_model.specs.Refusals.{Refused, Refuses, refused, refusal_line, usage, unbuilt, file_too_long}
+use Rattle.cb_model.specs.Refusals.{Refused, Refuses, refusal_line, usage, unbuilt, file_too_long}
 use Rattle.cb_model.specs.Verdicts.{Compared, agrees, differs, stopped}
-use Rattle.cb_model.specs.Outside.{Rose, Wrote, bytes_named}
-use Rattle.cb_model.specs.Built.{VerifySays, too_long, not_first, compared, CommandSays, Output, OutputBegins, nothing_yet, begins, bytes_or, file_bytes}
+use Rattle.cb_model.specs.Outside.{Rose, bytes_named}
+use Rattle.cb_model.specs.Built.{VerifySays, too_long, not_first, compared, CommandSays, Output, nothing_yet, begins, bytes_or, file_bytes}
 use Rattle.cb_model.specs.Top.{Appends, Prints, HasUsage, NamesNumber}
-use Rattle.cb_top.specs.declared.lines.TheConstants.{USAGE, FILE_TOO_LONG, UNBUILT}
-use Rattle.cb_top.specs.Answers.{Decides, VerifyAnswers, Answers, BreaksOff, Finishes, whole, broken}
+use Rattle.cb_top.specs.declared.lines.TheConstants.{USAGE, FILE_TOO_LONG}
+use Rattle.cb_top.specs.Answers.{VerifyAnswers, Answers, BreaksOff, Finishes, whole, broken}
 
 -- ---- the outcomes of outputs
 
@@ -110,7 +110,7 @@ usage-answers files words text o c t e = record {
 }
 
 pub unbuilt-answers : (files : Option (List (Text × Text))) (words : List Text) (c : Command) (text : Text) (o : Outcome) → Some c ≡ command_of words →
-    CommandSays (Some c) (told_bytes files words) (refusal_line unbuilt ∷ []) o → text ≡ UNBUILT.now → Answers files words text o
+    CommandSays (Some c) (told_bytes files words) (refusal_line unbuilt ∷ []) o → text ≡ lines_text (refusal_line unbuilt ∷ []) → Answers files words text o
 unbuilt-answers files words c text o e says t = record {
   file = told_bytes files words;
   file_told = λ list p. ap (λ f. told_bytes f words) p;

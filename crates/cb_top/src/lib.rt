@@ -1,8 +1,10 @@
 //! The top call: from the words of the command line to the printed lines and the outcome.
 #![tactic(auto)]
 
-ghost use Rattle.std.specs.Prelude.{◌≡◌, ◌≢◌, ◌≤◌, [], length, map, string_bytes, None, IfOk, IfErr, IsOk};
+ghost use Rattle.std.specs.Prelude.{◌≡◌, ◌≢◌, ◌≤◌, [], ◌∷◌, length, map, string_bytes, None, IfOk, IfErr, IsOk};
 ghost use Rattle.cb_model.specs.Commands.{command_of};
+ghost use Rattle.cb_model.specs.Text.{lines_text};
+ghost use Rattle.cb_model.specs.Refusals.{refusal_line, unbuilt};
 ghost use Rattle.cb_model.specs.Outside.{Rose};
 ghost use Rattle.cb_model.specs.Top.{Prints, HasUsage, NamesNumber};
 ghost use Rattle.cb_top.specs.Words.{nodes_view};
@@ -78,6 +80,14 @@ impl Answer {
             outcome: Outcome::Refused(number),
         }
     }
+
+    // The answer where what is asked for isn't built yet.
+    fn unbuilt() -> Answer
+        ensures line { line_bytes result.line ≡ lines_text (refusal_line unbuilt ∷ []) }
+        ensures outcome { result.outcome ≡ Outcome.Refused 99 }
+    {
+        Answer::refusal(lines::UNBUILT, 99)
+    }
 }
 
 // The answer to the words, or the outcome where there is none.
@@ -89,12 +99,10 @@ fn answer_to<F: Files>(alloc: Global, words: &[String], files: &mut F) -> Result
     match words::command_in(words) {
         None => Ok(Answer::refusal(lines::USAGE, 19)),
         Some(Command::Verify { file, name, nodes }) => verify(alloc, file, name, nodes, files),
-        Some(
-            Command::Check { .. }
-            | Command::Run { .. }
-            | Command::Same { .. }
-            | Command::Make { .. },
-        ) => Ok(Answer::refusal(lines::UNBUILT, 99)),
+        Some(Command::Check { .. }) => Ok(Answer::unbuilt()),
+        Some(Command::Run { .. }) => Ok(Answer::unbuilt()),
+        Some(Command::Same { .. }) => Ok(Answer::unbuilt()),
+        Some(Command::Make { .. }) => Ok(Answer::unbuilt()),
     }
 }
 

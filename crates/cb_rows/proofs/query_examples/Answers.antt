@@ -7,6 +7,10 @@ use Rattle.cb_rows.proofs.CircuitGoalRow as circuit
 use Rattle.cb_rows.proofs.BusRow as bus
 use Rattle.cb_rows.proofs.CompoundRow as compound
 use Rattle.cb_rows.proofs.ParameterRow as parameter
+use Rattle.cb_rows.proofs.TwoWokenRow as two_woken
+use Rattle.cb_rows.proofs.TwoRulesRow as two_rules
+use Rattle.cb_rows.proofs.WideRow as wide_row
+use Rattle.std.proofs.Common.{lit<}
 use Rattle.cb_rows.proofs.query_examples.Goals as goal
 
 pub returns : goal.returns
@@ -24,4 +28,8 @@ returns c = record {
   one_counter = bus.says;
   not_one_number = bus.not_one_number;
   compound = compound.says;
+  two_woken = two_woken.says;
+  first_rule = two_rules.says;
+  wide = wide_row.says 4097 (lit< tt);
+  not_wide = wide_row.not_wide;
 }

@@ -1,5 +1,4 @@
-use Rattle.std.proofs.Common.{List, map, string_bytes, Global}
-use Rattle.cb_model.specs.Text.{Text}
+use Rattle.std.proofs.Common.{map, string_bytes, Global}
 use Rattle.cb_model.specs.declared.Side.TheVariants.{File, Input, Output}
 use Rattle.cb_top.specs.Answers.{line_bytes}
 use Rattle.cb_top.proofs.Outputs.{Finished, finished, break-prints}
