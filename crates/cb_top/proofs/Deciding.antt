@@ -1,5 +1,5 @@
 -- What is decided of a file, from its form and the verdict of the comparison.
-use Rattle.std.proofs.Common.{◌≡◌, ℕ, ◌+◌, ◌*◌, ◌-◌, ◌^◌, ◌<◌, ◌≤◌, map, sum, Bool, List, [], ◌∷◌, ◌++◌, codes, length, refl, sym, ap, subst, ◌∙◌, arith}
+use Rattle.std.proofs.Common.{◌≡◌, ℕ, ◌+◌, ◌*◌, ◌-◌, ◌^◌, ◌<◌, ◌≤◌, map, sum, Bool, List, [], ◌∷◌, ◌++◌, codes, length, Option, Some, None, MatchOption, Bor, refl, sym, ap, subst, ◌∙◌, arith}
 use Rattle.cb_model.specs.declared.Expr.{Expr}
 use Rattle.cb_model.specs.declared.Circuit.{Circuit}
 use Rattle.cb_model.specs.declared.Outcome.{Outcome}
@@ -19,6 +19,8 @@ use Rattle.cb_top.specs.Words.{budget_of}
 use Rattle.cb_verify.specs.declared.Verdict.{Verdict}
 use Rattle.cb_verify.specs.declared.Verdict.TheVariants as verdict
 use Rattle.cb_verify.specs.Verdict.{IsRight}
+use Rattle.cb_circ.specs.declared.first.First.{First}
+use Rattle.cb_circ.specs.First.{IsFirstForm, IsNotFirstForm}
 use Rattle.cb_top.specs.Answers.{Decides, VerdictSays, FitsPorts}
 
 -- what was read of a file in the first form
@@ -86,3 +88,13 @@ module _ (file name : Text) (nodes : Nodes) (circuit : Circuit) (ports : List Te
   pub fits-ports : (v : Verdict) → IsRight circuit (BySpec exprs) v → FitsPorts (length ports) v
   fits-ports verdict.Verified h = tt
   fits-ports (verdict.Differs input output got wanted) h = (input-ports input (output - 1) got wanted h.1, h.0)
+
+-- what `first_form` answers, as what was read
+pub was-read : (file name : Text) (o : Option First) (first : First) (names : List (Bor Text)) (spec : List Expr) → o ≡ Some first → names ≡ first.names → spec ≡ first.spec →
+    MatchOption o (IsNotFirstForm file name) (IsFirstForm file name) → WasRead file name first.circuit (map (λ p. p.now) names) spec
+was-read file name o first names spec e ns es h =
+    let k : IsFirstForm file name first = subst (λ x. MatchOption x (IsNotFirstForm file name) (IsFirstForm file name)) e h in
+    record { m = k.m; s = k.s; form = k.form; circuit_is = k.circuit; ports_are = ap (map (λ (p : Bor Text). p.now)) ns ∙ k.names; exprs_are = es ∙ k.spec }
+
+pub not-read : (file name : Text) (o : Option First) → o ≡ None → MatchOption o (IsNotFirstForm file name) (IsFirstForm file name) → IsNotFirstForm file name
+not-read file name o e h = subst (λ x. MatchOption x (IsNotFirstForm file name) (IsFirstForm file name)) e h
