@@ -8,7 +8,13 @@ use Rattle.cb_model.specs.Text.{Text}
 use Rattle.cb_model.specs.FirstForm.{Word, word_of, word_with}
 use Rattle.cb_lex.specs.declared.Token.{Token}
 use Rattle.cb_lex.specs.View.{token_of, tokens_of}
-use Rattle.cb_circ.specs.Written.{words, texts, Starts, words_at, kind_of, HasShape, LacksShape}
+use Rattle.cb_circ.specs.Written.{words, texts, words_at, kind_of, HasShape, LacksShape}
+
+-- tokens of these kinds begin the list
+abbrev pub Starts : List Kind → List Token → Type 0
+Starts [] ts = Unit {0}
+Starts (k ∷ ks) [] = ⊥
+Starts (k ∷ ks) (t ∷ ts) = (t.kind ≡ k) × Starts ks ts
 
 -- ---- the loop over kinds
 

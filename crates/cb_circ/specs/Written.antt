@@ -20,12 +20,6 @@ words ts = map word_of (tokens_of ts)
 abbrev pub texts : List Token → List Text
 texts ts = map (λ t. t.text.now) ts
 
--- tokens of these kinds begin the list
-abbrev pub Starts : List Kind → List Token → Type 0
-Starts [] ts = Unit {0}
-Starts (k ∷ ks) [] = ⊥
-Starts (k ∷ ks) (t ∷ ts) = (t.kind ≡ k) × Starts ks ts
-
 -- the words of tokens of these kinds, with the texts from a place on
 abbrev pub words_at : List Kind → List Text → ℕ → List Word
 words_at [] xs at = []

@@ -10,3 +10,6 @@ mod numbering;
 mod stop;
 
 pub use first::{First, first_form};
+
+#[cfg(test)]
+mod tests;

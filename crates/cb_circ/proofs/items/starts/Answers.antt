@@ -1,7 +1,6 @@
 use Rattle.std.proofs.Common.{◌≡◌, ◌+◌, [], length, drop, ap, subst, sym, ◌∙◌, arith}
 use Rattle.std.proofs.Math.Seq.{drop-length}
-use Rattle.cb_circ.specs.Written.{Starts}
-use Rattle.cb_circ.proofs.Reading.{starts_on, starts_other, starts_past, shape, no_shape}
+use Rattle.cb_circ.proofs.Reading.{Starts, starts_on, starts_other, starts_past, shape, no_shape}
 use Rattle.cb_circ.proofs.items.starts.Goals as goal
 
 pub returns-then-not-same : goal.returns-then-not-same

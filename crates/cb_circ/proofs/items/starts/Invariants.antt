@@ -1,5 +1,5 @@
 use Rattle.std.proofs.Common.{◌+◌, drop}
-use Rattle.cb_circ.specs.Written.{Starts}
+use Rattle.cb_circ.proofs.Reading.{Starts}
 use Rattle.cb_circ.proofs.items.starts.Given as goal
 
 abbrev pub invariant-loop-i : goal.invariant-loop-i
