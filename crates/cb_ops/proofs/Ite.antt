@@ -21,7 +21,7 @@ IteRoom s t f g h = Room (f ∷ g ∷ h ∷ []) 1 s t
 pub choose : (b : Bool) (x y z w : Bool) → x ≡ z → y ≡ w → (if b then x else y) ≡ (if b then z else w)
 choose b x y z w p q = λ j. if b then p j else q j
 
-choose-all : (b c x y z w : Bool) → b ≡ c → x ≡ z → y ≡ w → (if b then x else y) ≡ (if c then z else w)
+pub choose-all : (b c x y z w : Bool) → b ≡ c → x ≡ z → y ≡ w → (if b then x else y) ≡ (if c then z else w)
 choose-all b c x y z w o p q = λ j. if o j then p j else q j
 
 -- the bit that stands there already

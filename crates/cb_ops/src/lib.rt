@@ -1,19 +1,24 @@
 //! Operations on shared decision diagrams, with a memo of answers (Brace, Rudell and Bryant 1990).
 #![tactic(auto)]
 
-ghost use Rattle.std.specs.Prelude.{◌≡◌, ◌≢◌, ◌⊎◌, ℕ, Bool, not, ◌&&◌, ◌||◌, ◌+◌, ◌-◌, ◌*◌, ◌<◌, ◌≤◌, ◌^◌, ◌↔◌, [], ◌∷◌, ◌++◌, List, length, take, Some, None, Ok, Err, IfOk, OnOk, OnErr, IfSome, IfNone, IsTrue, true, false, if◌then◌else◌};
+ghost use Rattle.std.specs.Prelude.{◌≡◌, ◌≢◌, ◌⊎◌, ℕ, Bool, not, ◌&&◌, ◌||◌, ◌+◌, ◌-◌, ◌*◌, ◌<◌, ◌≤◌, ◌^◌, ◌↔◌, [], ◌∷◌, ◌++◌, List, length, take, Some, None, Ok, Err, IfOk, OnOk, OnErr, IfSome, IfNone, IsTrue, Contains, true, false, if◌then◌else◌};
 ghost use Rattle.cb_model.specs.Bits.{Bits, xor, put};
 ghost use Rattle.indexmap.specs.IndexMap.{get};
 ghost use Rattle.cb_ops.specs.Done.{AllRestricted, node_eq};
+ghost use Rattle.cb_ops.specs.Support.{IsWithin, AllWithin, IsGathered};
 ghost use Rattle.cb_dd.specs.Diagram.{Store, IsDiagram, IsCanonical, IsNode, IsChild, IsFull, HasParts, Holds, function_of, level_of, fulls_after, parts_of, triple};
 ghost use Rattle.std.specs.List.Sorted.{IsStrictlyIncreasing};
-ghost use Rattle.cb_ops.specs.Ops.{Grows, StandsFor, IsIte, IsCofactor, Room, HasCause, DependsOn, IsLeastTrue, IsLeastSide};
+ghost use Rattle.cb_ops.specs.Ops.{Grows, StandsFor, IsIte, IsCofactor, Room, HasCause, DependsOn, IsFree, IsLeastTrue, IsLeastSide};
 ghost use Rattle.cb_ops.specs.declared.Call.{Call};
 
 use cb_dd::{Dd, DdMark, Node, Stop};
-use indexmap::IndexMap;
+use indexmap::{IndexMap, IndexSet};
+use smallvec::SmallVec;
 use std::alloc::{AllocError, Global};
 use std::marker::Model;
+
+/// Levels, rising; up to 16 of them take no memory.
+pub type Levels = SmallVec<u32, 16>;
 
 /// How many answers the memo holds at least, before it is cleared to make room; it holds as many as there are
 /// nodes, where there are more. With this number a multiplier of 10 bits took half the time that a memo took which
@@ -400,6 +405,49 @@ impl Ops {
         }
     }
 
+    /// The levels on which the node depends, rising.
+    pub fn support(&self, f: Node) -> Result<Levels, AllocError>
+        requires { IsNode self.now.triples f.0 }
+        ensures rise { IfOk result (λ levels. IsStrictlyIncreasing levels.items) }
+        ensures enough { IfOk result (λ levels. DependsOn self.now.triples f.0 levels.items) }
+        ensures needed { IfOk result (λ levels. (l : ℕ) → Contains levels.items l → IsFree self.now.triples f.0 l → ⊥) }
+    {
+        let alloc = *self.memo.allocator();
+        let mut seen = IndexSet::new(alloc);
+        let mut levels = IndexSet::new(alloc);
+        self.gather(f, &mut seen, &mut levels)?;
+        levels.sort()?;
+        let list = SmallVec::from_slice(alloc, levels.as_slice())?;
+        Ok(list)
+    }
+
+    // Adds the levels of the nodes below and at this one; those of the nodes that were seen are there already.
+    fn gather(
+        &self,
+        f: Node,
+        seen: &mut IndexSet<Node>,
+        levels: &mut IndexSet<u32>,
+    ) -> Result<(), AllocError>
+        requires node { IsNode self.now.triples f.0 }
+        requires seen { AllWithin seen.old.keys self.now.triples levels.old.keys }
+        ensures seen { AllWithin seen.new.keys self.now.triples levels.new.keys }
+        ensures found { OnOk result (IsWithin self.now.triples f.0 levels.new.keys) }
+        ensures gathered { IsGathered self.now.triples f.0 levels.old.keys levels.new.keys }
+    {
+        let _count = self.count();
+        let Some((at, lo, hi)) = self.parts(f) else {
+            return Ok(());
+        };
+        if seen.contains(&f) {
+            return Ok(());
+        }
+        levels.insert(at)?;
+        self.gather(lo, seen, levels)?;
+        self.gather(hi, seen, levels)?;
+        seen.insert(f)?;
+        Ok(())
+    }
+
     // The level of a node, above all levels for the constants.
     fn level(&self, n: Node) -> u64
         requires { IsNode self.now.triples n.0 }
@@ -525,4 +573,81 @@ fn remember(done: &mut IndexMap<Node, Node>, n: Node, r: Node)
         → ((q ≡ n) × (v ≡ r)) ⊎ (get node_eq done.old q ≡ Some v) }
 {
     let _ = done.insert(n, r);
+}
+
+#[cfg(test)]
+mod tests {
+    use super::*;
+    use std::test::Fail;
+
+    // A store with the bits at levels 0 and 1.
+    fn two_bits(alloc: Global) -> Result<(Ops, Node, Node), Fail>
+        ensures {
+            IfOk result (λ p. IsNode p.0.triples p.1.0 × IsNode p.0.triples p.2.0)
+        }
+    {
+        let mut ops = Ops::new(alloc, 100)?;
+        let x = ops.node(0, Node::ZERO, Node::ONE)?;
+        let y = ops.node(1, Node::ZERO, Node::ONE)?;
+        Ok((ops, x, y))
+    }
+
+    fn is_here(ops: &Ops, n: Node) -> bool
+        ensures { IsTrue result ↔ IsNode ops.now.triples n.0 }
+    {
+        n.0 < ops.count() + 2
+    }
+
+    #[test]
+    fn connects_two_bits(rt: HostRuntime) -> Result<(), Fail> {
+        let (mut ops, x, y) = two_bits(rt.alloc())?;
+        let both = ops.and(x, y)?;
+        assert!(rt; is_here(&ops, x) && is_here(&ops, y));
+        assert_eq!(rt; ops.parts(both), Some((0, Node::ZERO, y)));
+        let either = ops.or(y, x)?;
+        assert!(rt; is_here(&ops, x) && is_here(&ops, y));
+        assert_eq!(rt; ops.parts(either), Some((0, y, Node::ONE)));
+        let other = ops.not(y)?;
+        assert!(rt; is_here(&ops, x) && is_here(&ops, y));
+        let one = ops.xor(x, y)?;
+        assert_eq!(rt; ops.parts(one), Some((0, y, other)));
+        Ok(())
+    }
+
+    #[test]
+    fn chooses_between_nodes(rt: HostRuntime) -> Result<(), Fail> {
+        let (mut ops, x, y) = two_bits(rt.alloc())?;
+        let other = ops.not(x)?;
+        assert_eq!(rt; ops.not(other), Ok(x));
+        assert!(rt; is_here(&ops, x) && is_here(&ops, y));
+        let both = ops.and(y, x)?;
+        assert!(rt; is_here(&ops, x) && is_here(&ops, y));
+        assert_eq!(rt; ops.ite(x, y, Node::ZERO), Ok(both));
+        Ok(())
+    }
+
+    #[test]
+    fn takes_cofactors_and_the_support(rt: HostRuntime) -> Result<(), Fail> {
+        let (mut ops, x, y) = two_bits(rt.alloc())?;
+        let both = ops.and(x, y)?;
+        assert_eq!(rt; ops.restrict(both, 0, true), Ok(y));
+        assert!(rt; is_here(&ops, both));
+        assert_eq!(rt; ops.exists(both, 0), Ok(y));
+        assert!(rt; is_here(&ops, both));
+        let levels = ops.support(both)?;
+        assert_eq!(rt; levels.as_slice(), [0, 1].as_slice());
+        Ok(())
+    }
+
+    #[test]
+    fn finds_the_least_assignment(rt: HostRuntime) -> Result<(), Fail> {
+        let (mut ops, x, y) = two_bits(rt.alloc())?;
+        let either = ops.or(x, y)?;
+        let levels = ops.support(either)?;
+        let mut bits = [true, false];
+        assert_eq!(rt; levels.len(), 2);
+        assert!(rt; ops.least_true(either, levels.as_slice(), &mut bits));
+        assert_eq!(rt; bits, [false, true]);
+        Ok(())
+    }
 }
