@@ -85,7 +85,7 @@ module _ (ts : List Triple) (is : IsDiagram ts) (f at lo hi : ℕ) (w : IsNode t
     agrees = λ a b h. parts.function a ∙ choose-all _ _ _ _ _ _ (h at there) (high.agrees a b h) (low.agrees a b h) ∙ sym (parts.function b);
   }
 
-agree-at : (ls : List ℕ) (a b : Bits) → Agree ls a b → (l : ℕ) → IsListed ls l → a l ≡ b l
+pub agree-at : (ls : List ℕ) (a b : Bits) → Agree ls a b → (l : ℕ) → IsListed ls l → a l ≡ b l
 agree-at [] a b h l there = absurd (true≢false (sym there))
 agree-at (k ∷ ks) a b h l there = elim (cases_Bool (nat_eq l k)) [
   | inl same ↦ let e : l ≡ k = eqb-true l k same in ap a e ∙ h.0 ∙ sym (ap b e)

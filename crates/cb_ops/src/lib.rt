@@ -1,10 +1,11 @@
 //! Operations on shared decision diagrams, with a memo of answers (Brace, Rudell and Bryant 1990).
 #![tactic(auto)]
 
-ghost use Rattle.std.specs.Prelude.{◌≡◌, ◌≢◌, ◌⊎◌, ℕ, Bool, not, ◌&&◌, ◌||◌, ◌+◌, ◌-◌, ◌*◌, ◌<◌, ◌≤◌, ◌^◌, ◌↔◌, [], ◌∷◌, ◌++◌, List, length, take, Some, None, Ok, Err, IfOk, OnOk, OnErr, IfSome, IfNone, IsTrue, Contains, true, false, if◌then◌else◌};
+ghost use Rattle.std.specs.Prelude.{◌≡◌, ◌≢◌, ◌⊎◌, ℕ, Bool, not, ◌&&◌, ◌||◌, ◌+◌, ◌-◌, ◌*◌, ◌<◌, ◌≤◌, ◌^◌, ◌↔◌, [], ◌∷◌, ◌++◌, List, length, map, take, Some, None, Ok, Err, IfOk, OnOk, OnErr, IfSome, IfNone, IsTrue, Contains, true, false, if◌then◌else◌};
 ghost use Rattle.cb_model.specs.Bits.{Bits, xor, put};
 ghost use Rattle.indexmap.specs.IndexMap.{get};
 ghost use Rattle.cb_ops.specs.Done.{AllRestricted, node_eq};
+ghost use Rattle.cb_ops.specs.Substitute.{AreNodes, AllSubstituted, SubstituteCause, SubstituteRoom, image_of, substituted};
 ghost use Rattle.cb_ops.specs.Support.{IsWithin, AllWithin, IsGathered};
 ghost use Rattle.cb_dd.specs.Diagram.{Store, IsDiagram, IsCanonical, IsNode, IsChild, IsFull, HasParts, Holds, function_of, level_of, fulls_after, parts_of, triple};
 ghost use Rattle.std.specs.List.Sorted.{IsStrictlyIncreasing};
@@ -20,9 +21,8 @@ use std::marker::Model;
 /// Levels, rising; up to 16 of them take no memory.
 pub type Levels = SmallVec<u32, 16>;
 
-/// How many answers the memo holds at least, before it is cleared to make room; it holds as many as there are
-/// nodes, where there are more. With this number a multiplier of 10 bits took half the time that a memo took which
-/// grew without bound, and a third of its memory.
+/// How many answers the memo has room for from the start. It is cleared when it holds as many, and in a store of more
+/// nodes as many as there are nodes, so that an operation on large diagrams doesn't lose what it has just found.
 const MEMO_ROOM: usize = 65_536;
 
 // A call of `ite`, by the numbers of its arguments.
@@ -361,6 +361,86 @@ impl Ops {
         Ok(r)
     }
 
+    /// The node with each level of the list replaced by its node, all at once.
+    pub fn substitute(&mut self, f: Node, list: &[(u32, Node)]) -> Result<Node, Stop>
+        requires f { IsNode self.old.triples f.0 }
+        requires nodes { AreNodes self.old.triples list.now }
+        requires rise { IsStrictlyIncreasing (map (λ p. p.0) list.now) }
+        ensures is_node { IfOk result (λ n. IsNode self.new.triples n.0) }
+        ensures function { IfOk result (λ n. StandsFor self.new.triples n.0 (λ a.
+            function_of self.old.triples f.0
+            (substituted self.old.triples list.now a))) }
+        ensures grows { Grows self.old self.new }
+        ensures room { SubstituteRoom f.0 list.now self.old self.new }
+        ensures full { result ≡ Err Stop.Nodes → length self.new.triples ≡ self.new.budget }
+        ensures nodes { result ≡ Err Stop.Nodes → SubstituteCause f.0 list.now self.old self.new }
+        ensures unbounded { self.old.budget ≡ 2 ^ 64 - 1 → result ≢ Err Stop.Nodes }
+        ensures fulls { self.new.fulls ≡ fulls_after self.old.fulls result }
+        ensures diagram { IsDiagram self.new.triples }
+    {
+        let mut done = IndexMap::new(*self.memo.allocator());
+        let n = self.substitute_in(f, list, &mut done)?;
+        Ok(n)
+    }
+
+    // The same, with the nodes for which it is done.
+    fn substitute_in(
+        &mut self,
+        f: Node,
+        list: &[(u32, Node)],
+        done: &mut IndexMap<Node, Node>,
+    ) -> Result<Node, Stop>
+        requires f { IsNode self.old.triples f.0 }
+        requires nodes { AreNodes self.old.triples list.now }
+        requires done { AllSubstituted done.old self.old.triples list.now }
+        ensures is_node { IfOk result (λ n. IsNode self.new.triples n.0) }
+        ensures function { IfOk result (λ n. StandsFor self.new.triples n.0 (λ a.
+            function_of self.old.triples f.0
+            (substituted self.old.triples list.now a))) }
+        ensures grows { Grows self.old self.new }
+        ensures room { SubstituteRoom f.0 list.now self.old self.new }
+        ensures full { result ≡ Err Stop.Nodes → length self.new.triples ≡ self.new.budget }
+        ensures unbounded { self.old.budget ≡ 2 ^ 64 - 1 → result ≢ Err Stop.Nodes }
+        ensures fulls { self.new.fulls ≡ fulls_after self.old.fulls result }
+        ensures diagram { IsDiagram self.new.triples }
+        ensures done { AllSubstituted done.new self.new.triples list.now }
+    {
+        let _count = self.count();
+        let Some((at, lo, hi)) = self.parts(f) else {
+            return Ok(f);
+        };
+        if let Some(r) = recall_in(done, f) {
+            return Ok(r);
+        }
+        let low = self.substitute_in(lo, list, done)?;
+        let high = self.substitute_in(hi, list, done)?;
+        let choice = self.image(at, list)?;
+        let r = self.ite(choice, high, low)?;
+        remember(done, f, r);
+        Ok(r)
+    }
+
+    // The node that replaces the level, or else the bit at the level.
+    fn image(&mut self, level: u32, list: &[(u32, Node)]) -> Result<Node, Stop>
+        requires { AreNodes self.old.triples list.now }
+        ensures is_node { IfOk result (λ n. IsNode self.new.triples n.0) }
+        ensures function { IfOk result (λ n. StandsFor self.new.triples n.0 (λ a.
+            substituted self.old.triples list.now a level)) }
+        ensures grows { Grows self.old self.new }
+        ensures one { length self.new.triples ≤ length self.old.triples + 1 }
+        ensures full { result ≡ Err Stop.Nodes → length self.new.triples ≡ self.new.budget }
+        ensures unbounded { self.old.budget ≡ 2 ^ 64 - 1 → result ≢ Err Stop.Nodes }
+        ensures fulls { self.new.fulls ≡ fulls_after self.old.fulls result }
+        ensures diagram { IsDiagram self.new.triples }
+    {
+        let _count = self.count();
+        if let Some(n) = replacing(list, level) {
+            return Ok(n);
+        }
+        let n = self.node(level, Node::ZERO, Node::ONE)?;
+        Ok(n)
+    }
+
     /// Whether the node is 1 at some assignment; if so, `into` becomes the least that makes it so, its i-th bit for
     /// the level at place i: 0 before 1, and the first level weighs most. Else `into` is kept.
     pub fn least_true(&self, f: Node, levels: &[u32], into: &mut [bool]) -> bool
@@ -560,6 +640,18 @@ fn call_of(f: Node, g: Node, h: Node) -> Option<Call>
     Some(Call { f, g, h })
 }
 
+// The node that replaces the level, if one does.
+fn replacing(list: &[(u32, Node)], level: u32) -> Option<Node>
+    ensures { result ≡ image_of list.now level }
+{
+    for entry in list {
+        if level == entry.0 {
+            return Some(entry.1);
+        }
+    }
+    None
+}
+
 // What was remembered for the node.
 fn recall_in(done: &IndexMap<Node, Node>, n: Node) -> Option<Node>
     ensures { IfSome result (λ r. get node_eq done.now n ≡ Some r) }
@@ -582,9 +674,7 @@ mod tests {
 
     // A store with the bits at levels 0 and 1.
     fn two_bits(alloc: Global) -> Result<(Ops, Node, Node), Fail>
-        ensures {
-            IfOk result (λ p. IsNode p.0.triples p.1.0 × IsNode p.0.triples p.2.0)
-        }
+        ensures { IfOk result (λ p. IsNode p.0.triples p.1.0 × IsNode p.0.triples p.2.0) }
     {
         let mut ops = Ops::new(alloc, 100)?;
         let x = ops.node(0, Node::ZERO, Node::ONE)?;
