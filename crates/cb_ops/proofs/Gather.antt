@@ -21,21 +21,6 @@ within-constant ts n levels (inr e) = record { agrees = λ a b h. ap (λ m. func
 pub within-wider : (ts : List Triple) (n : ℕ) (old new : List ℕ) → ((l : ℕ) → IsListed old l → IsListed new l) → IsWithin ts n old → IsWithin ts n new
 within-wider ts n old new kept w = record { agrees = λ a b h. w.agrees a b (λ l there. h l (kept l there)) }
 
-pub all-wider : (ts : List Triple) (nodes : List Node) (old new : List ℕ) → ((l : ℕ) → IsListed old l → IsListed new l) → AllWithin nodes ts old → AllWithin nodes ts new
-all-wider ts nodes old new kept all = record { each = λ n there. within-wider ts n.0 old new kept (all.each n there) }
-
--- one more node
-pub all-more : (ts : List Triple) (old new : List Node) (levels : List ℕ) (n : Node) → AllWithin old ts levels → IsWithin ts n.0 levels → ((q : Node) → list_any (node_eq q) new ≡ cond (node_eq n q) true (list_any (node_eq q) old)) → AllWithin new ts levels
-all-more ts old new levels n all here says = record {
-  each = λ q there. elim (cases_Bool (node_eq n q)) [
-    | inl same ↦ subst (λ x. IsWithin ts x.0 levels) (node_eq-same n q same) here
-    | inr other ↦ all.each q (sym (says q ∙ ap (λ b. cond b true (list_any (node_eq q) old)) other) ∙ there)
-  ];
-}
-
-pub gathered-same : (ts : List Triple) (n : ℕ) (levels : List ℕ) → IsGathered ts n levels levels
-gathered-same ts n levels = record { kept = λ l h. h; matter = λ l h. inl h }
-
 pub gathered-then : (ts : List Triple) (n : ℕ) (a b d : List ℕ) → IsGathered ts n a b → IsGathered ts n b d → IsGathered ts n a d
 gathered-then ts n a b d first second = record {
   kept = λ l h. second.kept l (first.kept l h);

@@ -119,9 +119,6 @@ restricted-more old new ts level bit n r all here says = record {
   ];
 }
 
-pub restricted-none : {S : Type 0} (done : IndexMap Node Node S) (ts : List Triple) (level : ℕ) (bit : Bool) → done.entries ≡ [] → AllRestricted done ts level bit
-restricted-none done ts level bit none = record { right = λ n r at. absurd (let e : None ≡ Some r = ap (lookup (node_eq n)) (sym none) ∙ at in cc) }
-
 pub node_eq-same : (x y : Node) → node_eq x y ≡ true → x ≡ y
 node_eq-same x y e = λ i. record { 0 = eqb-true _ _ e i }
 

@@ -67,10 +67,6 @@ image-node ts (p ∷ ps) l m h e = elim (cases_Bool (nat_eq l p.0)) [
   | inr other ↦ image-node ts ps l m h.1 (sym (ap (λ b. if b then Some p.1 else image_of ps l) other) ∙ e)
 ]
 
--- a level is replaced, or not
-abbrev AtImage : Images → ℕ → Type 0
-AtImage list l = ((m : Node) × (image_of list l ≡ Some m)) ⊎ (image_of list l ≡ None)
-
 cases-image : (o : Option Node) → ((m : Node) × (o ≡ Some m)) ⊎ (o ≡ None)
 cases-image (Some m) = inl (m, refl)
 cases-image None = inr refl
@@ -131,15 +127,6 @@ substitute-none n list s = record {
       let m : 2 ^ length second * 1 ≤ 2 ^ length second * 2 ^ length first = mul-le-mul_left (2 ^ length second) p in
       omega arith;
 }
-
-pub substitute-cause : (n : ℕ) (list : Images) (s v : Store) (fulls : ℕ) (r : Result Node Stop) → SubstituteRoom n list s v → v.budget ≡ s.budget → fulls ≡ s.fulls → v.fulls ≡ fulls_after fulls r → (r ≡ Err Nodes → length v.triples ≡ v.budget) → r ≡ Err Nodes → SubstituteCause n list s v
-substitute-cause n list s v old r room same before fulls full stop =
-    let risen : v.fulls ≡ min (s.fulls + 1) (2 ^ 64 - 1) = fulls ∙ ap (fulls_after old) stop ∙ ap (λ k. min (k + 1) (2 ^ 64 - 1)) before in
-    let filled = full stop in
-    record {
-      rose = omega arith;
-      below = λ first second sp. let m = room.most first second sp in let p : 0 < 2 ^ length second = pow_pos (length second) in omega arith;
-    }
 
 module _ (s t u x v : Store) (st : Grows s t) (tu : Grows t u) (ux : Grows u x) (list : Images) (ws : AreNodes s.triples list) (f at lo hi low high image : ℕ) (wf : IsNode s.triples f) (parts : HasParts s.triples f at lo hi) where
   su : Grows s u

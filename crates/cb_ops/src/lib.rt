@@ -730,6 +730,15 @@ mod tests {
     }
 
     #[test]
+    fn replaces_a_level(rt: HostRuntime) -> Result<(), Fail> {
+        let (mut ops, x, y) = two_bits(rt.alloc())?;
+        let both = ops.and(x, y)?;
+        assert!(rt; is_here(&ops, x));
+        assert_eq!(rt; ops.substitute(both, &[(1, x)]), Ok(x));
+        Ok(())
+    }
+
+    #[test]
     fn finds_the_least_assignment(rt: HostRuntime) -> Result<(), Fail> {
         let (mut ops, x, y) = two_bits(rt.alloc())?;
         let either = ops.or(x, y)?;
