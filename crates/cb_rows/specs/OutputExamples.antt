@@ -1,12 +1,12 @@
 -- Whole runs of the program, from the words and the bytes to the text and the outcome.
-use Rattle.std.specs.Prelude.{◌≡◌, ℕ, ◌++◌, Bool, true, false, List, [], ◌∷◌, codes, Some, None, pos}
+use Rattle.std.specs.Prelude.{ℕ, false, List, [], ◌∷◌, codes, Some, pos}
 use Rattle.cb_model.specs.declared.Sort.TheVariants as sort
 use Rattle.cb_model.specs.declared.Outcome.TheVariants as outcome
 use Rattle.cb_model.specs.Text.{Text, lines_text}
 use Rattle.cb_model.specs.Grammar.{Last, one, Name, Variable, Integer, FormGoal, ACall, AnEqual, FormClause, Directive, Rule}
-use Rattle.cb_model.specs.Commands.{command_of, Verify, Same, Check, Max, Only}
+use Rattle.cb_model.specs.Commands.{command_of, Verify, Same, Max, Only}
 use Rattle.cb_model.specs.Directives.{Declared, nothing}
-use Rattle.cb_model.specs.Facts.{Circuits, no_circuits, with_module, with_spec}
+use Rattle.cb_model.specs.Facts.{no_circuits, with_module, with_spec}
 use Rattle.cb_model.specs.Line.{Names}
 use Rattle.cb_model.specs.Output.{Loaded, IsLoaded, LoadedSays, IsQuery, Output, OutputBegins, QuerySays, TakesBy}
 use Rattle.cb_rows.specs.TryRow as try
