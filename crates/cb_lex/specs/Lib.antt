@@ -1,1 +1,6 @@
 pub mod View
+pub mod Laws
+pub mod Faults
+pub mod Digits
+pub mod Scans
+pub mod Place

@@ -2,6 +2,7 @@ pub mod Bits
 pub mod Text
 pub mod Values
 pub mod Circuits
+pub mod Sound
 pub mod Equations
 pub mod Program
 pub mod Derivation

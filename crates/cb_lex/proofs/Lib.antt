@@ -1,0 +1,9 @@
+pub mod Bools
+pub mod OneList
+pub mod Runs
+pub mod Classes
+pub mod Digits
+pub mod Quotes
+pub mod Front
+pub mod Skips
+pub mod Steps

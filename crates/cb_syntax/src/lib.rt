@@ -1,0 +1,6 @@
+//! Clauses and queries from text.
+#![tactic(auto)]
+
+mod token_list;
+
+pub use token_list::{TokensError, tokens};
