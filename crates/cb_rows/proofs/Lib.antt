@@ -18,3 +18,4 @@ pub mod TwoWokenRow
 pub mod TwoRulesRow
 pub mod WideRow
 pub mod OutputRows
+pub mod DetailRows

@@ -1,0 +1,160 @@
+-- Small facts, each of which fixes one choice of a definition.
+use Rattle.std.specs.Prelude.{◌≡◌, ℕ, zero, suc, ◌+◌, ◌++◌, Bool, true, false, List, [], ◌∷◌, map, length, codes, Option, Some, None, pos}
+use Rattle.cb_model.specs.declared.Sort.{Sort}
+use Rattle.cb_model.specs.declared.Sort.TheVariants as sort
+use Rattle.cb_model.specs.declared.When.TheVariants as when
+use Rattle.cb_model.specs.declared.Expr.TheVariants as expr
+use Rattle.cb_model.specs.declared.Tree.{Tree}
+use Rattle.cb_model.specs.declared.Tree.TheVariants as tree
+use Rattle.cb_model.specs.declared.Goal.TheVariants as goal
+use Rattle.cb_model.specs.declared.Clause.{Clause}
+use Rattle.cb_model.specs.Text.{Text, name_text, shown_name}
+use Rattle.cb_model.specs.Values.{World}
+use Rattle.cb_model.specs.Equations.{Item, Pair}
+use Rattle.cb_model.specs.Program.{Program, no_program, first_clause, next_clause}
+use Rattle.cb_model.specs.Derivation.{Branch, resolved, waits, passed, Budget, Resolutions, Variables, Equations, WordHolds, Made, Printed, stretch_after}
+use Rattle.cb_model.specs.Answers.{Product, products_text, product_text}
+use Rattle.cb_model.specs.Line.{Names, bus_text, line_text, is_wide}
+use Rattle.cb_model.specs.Room.{branch_size, widest}
+use Rattle.cb_model.specs.Grammar.{Form, Forms, Last, More, one, Name, Variable, Integer, Closed, Open, Not, And, FormGoal, ACall, AnEqual, FormClause, Directive, Rule}
+use Rattle.cb_model.specs.Written.{clause_written, query_written, parts_of}
+use Rattle.cb_model.specs.Directives.{directives, nothing, BadDirective, Twice, Unknown, Declared, constant_argument, refuse}
+use Rattle.cb_model.specs.Sorts.{HasSort, Var, Equation, apart, own_name}
+use Rattle.cb_model.specs.Loading.{query_body, goal_unknown, is_taken}
+use Rattle.cb_model.specs.Facts.{no_circuits, with_spec, with_module, FactReads, ModuleRefusal, Pins, Driven}
+use Rattle.cb_model.specs.Facts as facts
+use Rattle.cb_rows.specs.DelayRow as delay
+use Rattle.cb_rows.specs.CircuitGoalRow as circuit
+use Rattle.cb_rows.specs.CircuitExamples.{half_adder, half_spec, full_adder, A, B, with_pins}
+use Rattle.cb_rows.specs.FileExamples.{atom, p_bool, nets_of}
+
+-- so many times the same
+abbrev pub copies : {T : Type 0} → ℕ → T → List T
+copies zero x = []
+copies (suc n) x = x ∷ copies n x
+
+-- a branch with so many Boolean variables and equation steps
+abbrev pub branch_with : ℕ → ℕ → Branch
+branch_with v steps = record { goals = goal.Fail ∷ []; waiting = []; next = 0; items = []; sorts = copies v sort.Bool; steps = steps }
+
+-- X is the constant a
+abbrev pub x_is_a : List Item
+x_is_a = Pair (tree.Leaf (expr.Var 0)) (tree.Leaf (expr.Const 0)) ∷ []
+
+-- no names have declared sorts
+abbrev pub world : World
+world = record { arguments = [] }
+
+-- no names
+abbrev pub no_names : Names
+no_names = record { names = []; constants = []; printed = [] }
+
+-- the text of a variable
+abbrev pub letter : ℕ → Text
+letter n = codes "x"
+
+-- a product of one literal
+abbrev pub literal : Product
+literal = (0, true) ∷ []
+
+-- a clause of predicate n
+abbrev pub clause_of : ℕ → Clause
+clause_of n = record { pred = n; sorts = []; head = []; body = [] }
+
+-- clauses of two predicates
+abbrev pub mixed : Program
+mixed = record (no_program 0) { clauses = clause_of 1 ∷ clause_of 0 ∷ clause_of 1 ∷ clause_of 0 ∷ [] }
+
+-- a directive with one argument
+abbrev pub directive : Text → Form → FormClause
+directive word f = Directive 1 word (one f)
+
+-- `X = [~Y|T], f(Z)`
+abbrev pub places_goals : List FormGoal
+places_goals =
+    AnEqual (Variable (codes "X")) (Open (one (Not (Variable (codes "Y")))) (Variable (codes "T"))) ∷ ACall (Name (codes "f") (one (Variable (codes "Z")))) ∷ []
+
+-- `circuit(m, B, [])`
+abbrev pub circuit_call : Form
+circuit_call = Name (codes "circuit") (More (atom (codes "m")) (More (Variable (codes "B")) (one (Closed Last))))
+
+pub record DetailExamples : Type 0 where
+  -- the clauses of one predicate, passing over those of others
+  pub first_of : first_clause mixed 0 ≡ Some 1
+  pub next_of : next_clause mixed 0 1 ≡ Some 3
+  pub last_of : next_clause mixed 0 3 ≡ None
+  -- a body goes in front of the goals
+  pub body_first : (resolved (branch_with 0 0) 0 [] (record { pred = 0; sorts = []; head = []; body = goal.True ∷ [] })).goals ≡ goal.True ∷ goal.Fail ∷ []
+  pub step_counts : (resolved (branch_with 0 0) 0 [] (clause_of 0)).steps ≡ 1
+  -- the three budgets at their ends, and their order
+  pub resolutions_left : passed (no_program 0) 5 5 (branch_with 0 0) ≡ None
+  pub resolutions_passed : passed (no_program 0) 5 6 (branch_with 0 1000001) ≡ Some Resolutions
+  pub variables_left : passed (no_program 1) 5 0 (branch_with 4095 0) ≡ None
+  pub variables_passed : passed (no_program 1) 5 0 (branch_with 4096 1000001) ≡ Some Variables
+  pub equations_left : passed (no_program 0) 5 0 (branch_with 0 1000000) ≡ None
+  pub equations_passed : passed (no_program 0) 5 0 (branch_with 0 1000001) ≡ Some Equations
+  -- where X is a, it is known and no one value
+  pub is_known : WordHolds world x_is_a when.Known (tree.Leaf (expr.Var 0))
+  pub not_const : WordHolds world x_is_a when.Fixed (tree.Leaf (expr.Var 0)) → ⊥
+  -- a list with an element has a form, and an open one has none
+  pub has_form : WordHolds world [] when.Nonvar (tree.Bus (expr.Var 0 ∷ []) (Some 0))
+  pub no_form : WordHolds world [] when.Nonvar (tree.Bus [] (Some 0)) → ⊥
+  -- the branches after the first answer, up to and with the second
+  pub stretch : stretch_after 1 (Made (branch_with 0 0) ∷ Printed (branch_with 0 1) ∷ Made (branch_with 0 2) ∷ Printed (branch_with 0 3) ∷ Made (branch_with 0 4) ∷ []) ≡
+      branch_with 0 2 ∷ branch_with 0 3 ∷ []
+  -- texts
+  pub large : products_text letter (literal ∷ copies 65536 literal) ≡ codes "(large)"
+  pub two_products : products_text letter (literal ∷ ((1, false) ∷ (2, true) ∷ []) ∷ []) ≡ codes "x + ~x*x"
+  pub no_variables : line_text 0 no_names [] [] ≡ codes "yes"
+  pub open_bus : bus_text [] (Some 0) ≡ codes "_T1"
+  pub open_list : bus_text (codes "0" ∷ codes "1" ∷ []) (Some 1) ≡ codes "[0, 1|_T2]"
+  pub closed_list : bus_text (codes "0" ∷ codes "1" ∷ []) None ≡ codes "[0, 1]"
+  pub quoted : name_text (codes "Big one") ≡ codes "'Big one'"
+  pub plain : name_text (codes "big_1") ≡ codes "big_1"
+  pub shown : shown_name (own_name 7) ≡ codes "_"
+  -- too many places
+  pub wide_places : is_wide (copies 65537 (tree.Int (pos 0))) ≡ true
+  pub not_wide_places : is_wide (copies 65536 (tree.Int (pos 0))) ≡ false
+  -- the bound counts waiting goals, and the ports of a module
+  pub waiting_size : branch_size delay.p (waits delay.behind delay.call) ≡ 2
+  pub widest_module : widest circuit.p ≡ 4
+  -- the grammar's form
+  pub written : clause_written (Rule 1 (Name (codes "p") (one (Not (Variable (codes "X"))))) true (ACall (atom (codes "q")) ∷ [])) ≡ true
+  pub no_body : clause_written (Rule 1 (atom (codes "p")) true []) ≡ false
+  pub short_chain : clause_written (Rule 1 (Name (codes "p") (one (And (one (Variable (codes "X")))))) false []) ≡ false
+  pub no_element : clause_written (Rule 1 (Name (codes "p") (one (Open Last (Variable (codes "X"))))) false []) ≡ false
+  pub no_goal : query_written (record { line = 1; goals = [] }) ≡ false
+  pub parts : parts_of (Name (codes "p") (More (Not (Variable (codes "X"))) (one (Closed (one (Integer (pos 0))))))) ≡ 5
+  -- directives
+  pub reserved : (directives (directive (codes "constants") (atom (codes "true")) ∷ [])).refusal ≡ Some (BadDirective, 1)
+  pub strange_word : (directives (directive (codes "foo") (atom (codes "a")) ∷ [])).refusal ≡ Some (BadDirective, 1)
+  pub lone_delay : (directives (directive (codes "delay") (atom (codes "p")) ∷ Rule 2 (atom (codes "p")) false [] ∷ [])).refusal ≡ Some (BadDirective, 1)
+  pub lone_sorts : (directives (directive (codes "sorts") (atom (codes "p")) ∷ [])).refusal ≡ None
+  pub delayed_demon :
+      (directives (directive (codes "delay") (Name (codes "p") (one (atom (codes "known")))) ∷ directive (codes "demon") (Name (codes "p") (one (atom (codes "bool")))) ∷ [])).refusal ≡
+      Some (BadDirective, 1)
+  pub constant_twice : (directives (directive (codes "constants") (atom (codes "a")) ∷ directive (codes "constants") (atom (codes "a")) ∷ [])).refusal ≡ Some (Twice, 1)
+  pub last_constant : (constant_argument (record nothing { constants = copies 4095 (codes "a") }) (atom (codes "b"))).0 ≡ None
+  pub too_many_constants : (constant_argument (record nothing { constants = copies 4096 (codes "a") }) (atom (codes "a"))).0 ≡ Some BadDirective
+  -- sorts: of the operand of `~`, of a tail, of a list's equation, and of an argument without declared sorts
+  pub operand_sort : HasSort nothing (query_body places_goals) (Var (codes "Y")) sort.Bool
+  pub tail_sort : HasSort nothing (query_body places_goals) (Var (codes "T")) sort.Bus
+  pub list_sort : HasSort nothing (query_body places_goals) (Var (codes "X")) sort.Bus
+  pub argument_sort : HasSort nothing (query_body places_goals) (Var (codes "Z")) sort.Term
+  pub pin_sort : HasSort nothing (query_body (ACall circuit_call ∷ [])) (Var (codes "B")) sort.Bus
+  -- each `_` is a variable of its own
+  pub apart_names : apart (Name (codes "p") (More (Variable (codes "_")) (one (Variable (codes "_"))))) 0 ≡
+      (Name (codes "p") (More (Variable (own_name 0)) (one (Variable (own_name 1)))), 2)
+  -- goals of modules, and heads that are taken
+  pub known_module : goal_unknown nothing [] (None ∷ Some (codes "m") ∷ []) (ACall circuit_call) ≡ false
+  pub unknown_module : goal_unknown nothing [] (Some (codes "n") ∷ []) (ACall circuit_call) ≡ true
+  pub fact_goal : goal_unknown nothing ((codes "spec", 3) ∷ []) [] (ACall (Name (codes "spec") (More (atom (codes "m")) (More (Closed Last) (one (Closed Last)))))) ≡ true
+  pub taken_head : is_taken (Some (atom (codes "fail"))) ≡ true
+  -- facts: a body, a second specification, a net that is driven twice
+  pub fact_with_body : FactReads no_circuits (Rule 1 (atom (codes "module")) true (ACall (atom (codes "q")) ∷ [])) (Some Pins) no_circuits
+  pub second_spec :
+      let spec : facts.Spec = record { name = codes "m"; inputs = []; exprs = [] } in
+      FactReads (with_spec no_circuits spec) (Rule 1 (Name (codes "spec") (More (atom (codes "m")) (More (Closed Last) (one (Closed Last))))) false []) (Some facts.Twice)
+      (with_spec no_circuits spec)
+  pub driven_twice : ModuleRefusal [] (record half_adder { instances = with_pins (A ∷ B ∷ []) (codes "S" ∷ []) (codes "xor") ∷ with_pins (A ∷ B ∷ []) (codes "S" ∷ []) (codes "and") ∷ []; outputs = codes "S" ∷ [] })
+      (Some Driven)
