@@ -12,3 +12,4 @@ pub mod OneReading
 pub mod OpenTrees
 pub mod OneShape
 pub mod OneLine
+pub mod WrittenForm

@@ -43,12 +43,6 @@ HasShape = (w : World) (c v : ℕ) (es : List Item) (terms : List Tree) → InSc
 abbrev pub TokenLines : Type 0
 TokenLines = (source : Text) (ts : List Token) (f : Option Fault) → Lexes 0 1 source ts f → Each (λ t. t.line ≡ line_at source t.start) ts
 
--- what the grammar reads is in its form, and no longer than the text
-abbrev pub ReadingIsWritten : Type 0
-ReadingIsWritten = (source : Text) →
-    ((cs : List FormClause) → IsReading ReadsClause source (Whole cs) → AreClauses (length source) cs) ×
-    ((qs : List FormQuery) → IsReading ReadsQuery source (Whole qs) → AreQueries (length source) qs)
-
 -- the flattened circuit of an accepted module has exactly one consistent valuation for each input, whatever the order of its instances
 abbrev pub FlatHasOne : Type 0
 FlatHasOne = (cs : List FormClause) (r : Option (FactRefusal × ℕ)) (c : Circuits) (f : Flat) (input : List Bool) →
