@@ -106,22 +106,22 @@ clashes = two_marks (Var (codes "X")) sort.Bool sort.Term x_bool x_term (λ e. c
 
 -- ---- cycles
 
-abbrev outs_of : Option Instance → List Text
+abbrev pub outs_of : Option Instance → List Text
 outs_of (Some i) = i.outs
 outs_of None = []
 
-abbrev ins_of : Option Instance → List Text
+abbrev pub ins_of : Option Instance → List Text
 ins_of (Some i) = i.ins
 ins_of None = []
 
-feeds_net : (m : Module) (i j : ℕ) (f : Feeds m i j) → Contains (outs_of (slice_get m.instances i)) f.net × Contains (ins_of (slice_get m.instances j)) f.net
+pub feeds_net : (m : Module) (i j : ℕ) (f : Feeds m i j) → Contains (outs_of (slice_get m.instances i)) f.net × Contains (ins_of (slice_get m.instances j)) f.net
 feeds_net m i j f = (subst (λ o. Contains (outs_of o) f.net) (sym f.from_is) f.given, subst (λ o. Contains (ins_of o) f.net) (sym f.to_is) f.taken)
 
-only_net : (x y : Text) → Contains (x ∷ []) y → x ≡ y
+pub only_net : (x y : Text) → Contains (x ∷ []) y → x ≡ y
 only_net x y (zero, l, h) = h
 only_net x y (suc k, l, h) = absurd (omega arith)
 
-no_net : (y : Text) → Contains [] y → ⊥
+pub no_net : (y : Text) → Contains [] y → ⊥
 no_net y (k, l, h) = absurd (omega arith)
 
 -- only the second gate of the row feeds the first

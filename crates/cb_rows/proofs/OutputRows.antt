@@ -36,6 +36,7 @@ use Rattle.cb_rows.proofs.TryRow as try_proof
 use Rattle.cb_rows.proofs.LexRow.{longest, no_token}
 use Rattle.cb_rows.proofs.TextRows.{shallow, alone, no_deep, not_open}
 use Rattle.cb_rows.proofs.CircuitRows as circuit_rows
+use Rattle.cb_rows.proofs.VerifyRow as verify_row
 use Rattle.cb_rows.specs.TextExamples.{token_at}
 use Rattle.cb_rows.specs.OutputExamples.{file, bit_clause, clauses, p_bool, loaded, input, goals, names, run_words, OutputExamples}
 
@@ -353,4 +354,6 @@ rows_hold = record {
   no_module = (refl, refl);
   no_spec = (refl, refl);
   ports_differ = (refl, refl);
+  accepted_module = verify_row.is_loaded;
+  verified_file = verify_row.verified;
 }
