@@ -13,3 +13,4 @@ pub mod OpenTrees
 pub mod OneShape
 pub mod OneLine
 pub mod WrittenForm
+pub mod LineOfTokens

@@ -1,14 +1,13 @@
 -- What the grammar reads is in its form, and no longer than the text.
-use Rattle.std.proofs.Common.{◌≡◌, ℕ, zero, suc, ◌+◌, ◌-◌, ◌<◌, ◌≤◌, Bool, true, false, ◌&&◌, List, [], ◌∷◌, length, take, drop, refl, sym, ◌∙◌, ap, subst, arith, length-drop}
+use Rattle.std.proofs.Common.{◌≡◌, ℕ, zero, suc, ◌+◌, ◌≤◌, Bool, true, false, ◌&&◌, List, [], ◌∷◌, length, take, refl, sym, ◌∙◌, ap, subst, arith, length-drop}
 use Rattle.std.proofs.lemmas.List.Sums.{sum_by-cons}
-use Rattle.std.specs.Prelude.{Option, Some, None, sum_by, ◌==◌, if◌then◌else◌}
+use Rattle.std.specs.Prelude.{Option, Some, sum_by, ◌==◌, if◌then◌else◌}
 use Rattle.std.specs.List.{list_all}
 use Rattle.cb_model.specs.declared.Kind.{Kind}
 use Rattle.cb_model.specs.Text.{Text}
-use Rattle.cb_model.specs.Tokens.{Token, name_of, Fault, Lexes, ended, layout, comment, token, number, quote, byte, Longest, spelled, from_newline}
-use Rattle.cb_model.specs.Grammar.{Form, Forms, Variable, Integer, Name, Closed, Open, Not, And, Xor, Or, Last, More, one, Op, Plus, Hash, Star, Sym, Chain, Operands, Unary, Prim, Call, Exprs, Commas, chain, Reads, a_chain, no_operand, operand, a_not, a_prim, a_variable, an_integer, a_call, a_group, a_nil, a_list, an_open_list, an_atom, a_compound, exprs, no_comma, a_comma, FormGoal, ACall, AnEqual, ReadsGoal, calls, equals, ReadsGoals, last_goal, more_goals, FormClause, ReadsClause, directive, fact, rule, FormQuery, ReadsQuery, a_query, ReadsAll, no_more, one_more, IsReading, whole, Whole}
-use Rattle.cb_model.specs.Grammar as g
-use Rattle.cb_model.specs.Written.{has_one, has_two, is_written, are_written, is_name, goal_written, has_goal, clause_written, query_written, parts_of, parts_in, goal_parts, clause_parts, clause_goals, AreClauses, AreQueries}
+use Rattle.cb_model.specs.Tokens.{Token, name_of, Fault, Lexes, ended, layout, comment, token, number, quote, byte, spelled, from_newline}
+use Rattle.cb_model.specs.Grammar.{Form, Forms, Name, Closed, Open, Not, Last, More, one, Op, Plus, Hash, Star, Sym, Operands, Prim, Call, Exprs, chain, Reads, a_chain, no_operand, operand, a_not, a_prim, a_variable, an_integer, a_call, a_group, a_nil, a_list, an_open_list, an_atom, a_compound, exprs, no_comma, a_comma, FormGoal, ReadsGoal, calls, equals, ReadsGoals, last_goal, more_goals, FormClause, ReadsClause, directive, fact, rule, FormQuery, ReadsQuery, a_query, ReadsAll, no_more, one_more, IsReading, whole, Whole}
+use Rattle.cb_model.specs.Written.{has_one, is_written, are_written, is_name, goal_written, has_goal, clause_written, query_written, parts_of, parts_in, goal_parts, clause_parts, clause_goals, AreClauses, AreQueries}
 use Rattle.cb_laws.specs.Laws.{ReadingIsWritten}
 use Rattle.cb_laws.proofs.Decided.{and_true}
 

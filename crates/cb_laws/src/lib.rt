@@ -1,7 +1,7 @@
 //! Laws of the definitions: each is the contract of a function that does nothing.
 #![tactic(auto)]
 
-ghost use Rattle.cb_laws.specs.Laws.{SolvableByTables, SolvableDecided, SolvableByTablesBelow, ReadyStays, StepDetermined, RunDetermined, FormDenotes, OneValuation, ShapeIsOne, LineIsOne, RoomIsOne, RoomOfNone, ReadingIsWritten, ClausesAreOne, QueriesAreOne};
+ghost use Rattle.cb_laws.specs.Laws.{SolvableByTables, SolvableDecided, SolvableByTablesBelow, ReadyStays, StepDetermined, RunDetermined, FormDenotes, OneValuation, ShapeIsOne, LineIsOne, RoomIsOne, RoomOfNone, TokenLines, ReadingIsWritten, ClausesAreOne, QueriesAreOne};
 
 /// Boolean equations are solvable exactly where they have a solution in the algebra (Boole).
 pub fn solvable_by_tables()
@@ -77,4 +77,9 @@ pub fn room_of_none()
 /// What a text is read as is in the grammar's form, and its clauses, goals and terms are each no more than its bytes.
 pub fn reading_is_written()
     ensures { ReadingIsWritten }
+{}
+
+/// The line of each token is that of its first byte.
+pub fn token_lines()
+    ensures { TokenLines }
 {}

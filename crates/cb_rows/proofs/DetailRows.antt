@@ -1,9 +1,8 @@
 -- Small facts, most by computation.
-use Rattle.std.proofs.Common.{◌≡◌, ℕ, zero, suc, ◌+◌, ◌<◌, Bool, true, false, not, ◌||◌, nat_lt, List, [], ◌∷◌, ◌++◌, map, length, refl, sym, ◌∙◌, ap, inl, inr, codes, arith, lit<, pos}
-use Rattle.std.specs.Prelude.{sum_by, flat_map, if◌then◌else◌, Some, Contains}
+use Rattle.std.proofs.Common.{◌≡◌, ℕ, zero, suc, Bool, true, false, ◌||◌, nat_lt, List, [], ◌∷◌, ◌++◌, map, length, refl, sym, ◌∙◌, ap, inl, codes, arith, lit<, pos}
+use Rattle.std.specs.Prelude.{sum_by, flat_map, if◌then◌else◌, Some}
 use Rattle.std.proofs.lemmas.List.Sums.{sum_by-cons}
 use Rattle.std.specs.Fmt.{digits}
-use Rattle.cb_model.specs.declared.Sort.{Sort}
 use Rattle.cb_model.specs.declared.Sort.TheVariants as sort
 use Rattle.cb_model.specs.declared.When.TheVariants as when
 use Rattle.cb_model.specs.declared.Expr.TheVariants as expr
@@ -13,20 +12,20 @@ use Rattle.cb_model.specs.declared.Tree.TheOpen.{Tree-F}
 use Rattle.cb_model.specs.declared.Tree.TheFolds.{fold-roll-Tree}
 use Rattle.cb_model.specs.Text.{joined}
 use Rattle.cb_model.specs.Bits.{Bits}
-use Rattle.cb_model.specs.Values.{Ground, Bit, Int, Fits, Valuation, tree_value}
+use Rattle.cb_model.specs.Values.{Bit, Int, Fits, Valuation, tree_value}
 use Rattle.cb_model.specs.Equations.{Meets}
-use Rattle.cb_model.specs.Derivation.{WordHolds, Outermost, Empty, NotEmpty, outermost}
+use Rattle.cb_model.specs.Derivation.{WordHolds, Empty, NotEmpty}
 use Rattle.cb_model.specs.Answers.{leaves, leaves_step, products_text, product_text}
 use Rattle.cb_model.specs.Line.{is_wide, places, places_step}
-use Rattle.cb_model.specs.Grammar.{Form, Variable, Integer, Open, Not, Name, one, ACall}
-use Rattle.cb_model.specs.Sorts.{Body, Marked, at_place, by_form, to_side, from_side, left, right, Var, Equation}
+use Rattle.cb_model.specs.Grammar.{Form, Variable, Open, Not, one}
+use Rattle.cb_model.specs.Sorts.{Body, Marked, at_place, by_form, to_side, left, right, Var}
 use Rattle.cb_model.specs.Directives.{nothing}
 use Rattle.cb_model.specs.Loading.{query_body}
 use Rattle.cb_model.specs.Facts.{bodied, second_spec}
-use Rattle.cb_laws.proofs.Values.{expr_values, tree_values, value-bus, value-leaf, value-var, value-const}
+use Rattle.cb_laws.proofs.Values.{expr_values, tree_values}
 use Rattle.cb_laws.proofs.Tables.{with_bits, zero_fits, bits_equal}
-use Rattle.cb_laws.proofs.Shapes.{leaves-leaf, places-leaf, size_values}
-use Rattle.cb_rows.specs.DetailExamples.{copies, x_is_a, world, letter, literal, places_goals, circuit_call, DetailExamples}
+use Rattle.cb_laws.proofs.Shapes.{size_values}
+use Rattle.cb_rows.specs.DetailExamples.{copies, x_is_a, world, letter, literal, places_goals, DetailExamples}
 
 -- ---- delay words
 

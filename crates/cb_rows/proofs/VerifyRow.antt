@@ -1,15 +1,15 @@
 -- A file with a module and its specification, from its bytes to the line of `verify`.
-use Rattle.std.proofs.Common.{◌≡◌, ℕ, zero, suc, ◌+◌, ◌<◌, Bool, true, false, not, List, [], ◌∷◌, ◌++◌, length, get_or, take, refl, sym, ◌∙◌, ap, subst, codes, arith, inl, inr, lit≤}
-use Rattle.std.specs.Prelude.{Some, None, bytes_eq, slice_get, Contains, Option}
+use Rattle.std.proofs.Common.{◌≡◌, ℕ, zero, suc, Bool, true, false, not, List, [], ◌∷◌, ◌++◌, get_or, take, refl, sym, ◌∙◌, ap, codes, arith, inl, inr, lit≤}
+use Rattle.std.specs.Prelude.{None, bytes_eq, slice_get, Contains}
 use Rattle.cb_model.specs.declared.Kind.TheVariants as kind
 use Rattle.cb_model.specs.declared.Outcome.TheVariants as outcome
 use Rattle.cb_model.specs.declared.Circuit.{Circuit}
 use Rattle.cb_model.specs.Text.{Text, lines_text}
 use Rattle.cb_model.specs.Tokens.{Token, name_of, Lexes, ended, layout, token}
-use Rattle.cb_model.specs.Grammar.{Form, Variable, Name, Not, Last, More, one, Plus, Closed, Reads, Chain, Unary, Exprs, a_prim, a_not, a_variable, a_call, a_list, an_atom, a_compound, exprs, no_comma, a_comma, FormClause, Rule, ReadsClause, fact, ReadsAll, no_more, one_more, nestings, IsReading, whole, Whole}
-use Rattle.cb_model.specs.Circuits.{Module, flat, circuit_of, Consistent, BySpec, spec_values, Agrees, Outputs}
+use Rattle.cb_model.specs.Grammar.{Variable, Name, Last, one, Plus, Closed, Reads, Chain, a_prim, a_not, a_variable, a_call, a_list, an_atom, a_compound, exprs, no_comma, a_comma, ReadsClause, fact, ReadsAll, no_more, one_more, nestings, IsReading, whole, Whole}
+use Rattle.cb_model.specs.Circuits.{flat, circuit_of, BySpec, spec_values, Agrees}
 use Rattle.cb_model.specs.Verdicts.{agrees}
-use Rattle.cb_model.specs.Facts.{Feeds, Leads, feeds, leads_on, HasCycle, no_facts, a_fact, a_module, a_spec}
+use Rattle.cb_model.specs.Facts.{Feeds, feeds, leads_on, HasCycle, no_facts, a_fact, a_module, a_spec}
 use Rattle.cb_model.specs.Loading as load
 use Rattle.cb_model.specs.Output.{IsLoaded, Output}
 use Rattle.cb_laws.proofs.Values.{expr_values}

@@ -1,10 +1,8 @@
 -- Small facts, each of which fixes one choice of a definition.
-use Rattle.std.specs.Prelude.{◌≡◌, ℕ, zero, suc, ◌+◌, ◌++◌, Bool, true, false, List, [], ◌∷◌, map, length, codes, Option, Some, None, pos}
-use Rattle.cb_model.specs.declared.Sort.{Sort}
+use Rattle.std.specs.Prelude.{◌≡◌, ℕ, zero, suc, true, false, List, [], ◌∷◌, codes, Some, None, pos}
 use Rattle.cb_model.specs.declared.Sort.TheVariants as sort
 use Rattle.cb_model.specs.declared.When.TheVariants as when
 use Rattle.cb_model.specs.declared.Expr.TheVariants as expr
-use Rattle.cb_model.specs.declared.Tree.{Tree}
 use Rattle.cb_model.specs.declared.Tree.TheVariants as tree
 use Rattle.cb_model.specs.declared.Goal.TheVariants as goal
 use Rattle.cb_model.specs.declared.Clause.{Clause}
@@ -12,21 +10,21 @@ use Rattle.cb_model.specs.Text.{Text, name_text, shown_name}
 use Rattle.cb_model.specs.Values.{World}
 use Rattle.cb_model.specs.Equations.{Item, Pair}
 use Rattle.cb_model.specs.Program.{Program, no_program, first_clause, next_clause}
-use Rattle.cb_model.specs.Derivation.{Branch, resolved, waits, passed, Budget, Resolutions, Variables, Equations, WordHolds, Made, Printed, stretch_after}
-use Rattle.cb_model.specs.Answers.{Product, products_text, product_text}
+use Rattle.cb_model.specs.Derivation.{Branch, resolved, waits, passed, Resolutions, Variables, Equations, WordHolds, Made, Printed, stretch_after}
+use Rattle.cb_model.specs.Answers.{Product, products_text}
 use Rattle.cb_model.specs.Line.{Names, bus_text, line_text, is_wide}
 use Rattle.cb_model.specs.Room.{branch_size, widest}
-use Rattle.cb_model.specs.Grammar.{Form, Forms, Last, More, one, Name, Variable, Integer, Closed, Open, Not, And, FormGoal, ACall, AnEqual, FormClause, Directive, Rule}
+use Rattle.cb_model.specs.Grammar.{Form, Last, More, one, Name, Variable, Integer, Closed, Open, Not, And, FormGoal, ACall, AnEqual, FormClause, Directive, Rule}
 use Rattle.cb_model.specs.Written.{clause_written, query_written, parts_of}
-use Rattle.cb_model.specs.Directives.{directives, nothing, BadDirective, Twice, Unknown, Declared, constant_argument, refuse}
-use Rattle.cb_model.specs.Sorts.{HasSort, Var, Equation, apart, own_name}
+use Rattle.cb_model.specs.Directives.{directives, nothing, BadDirective, Twice, constant_argument}
+use Rattle.cb_model.specs.Sorts.{HasSort, Var, apart, own_name}
 use Rattle.cb_model.specs.Loading.{query_body, goal_unknown, is_taken}
 use Rattle.cb_model.specs.Facts.{no_circuits, with_spec, with_module, FactReads, ModuleRefusal, Pins, Driven}
 use Rattle.cb_model.specs.Facts as facts
 use Rattle.cb_rows.specs.DelayRow as delay
 use Rattle.cb_rows.specs.CircuitGoalRow as circuit
-use Rattle.cb_rows.specs.CircuitExamples.{half_adder, half_spec, full_adder, A, B, with_pins}
-use Rattle.cb_rows.specs.FileExamples.{atom, p_bool, nets_of}
+use Rattle.cb_rows.specs.CircuitExamples.{half_adder, A, B, with_pins}
+use Rattle.cb_rows.specs.FileExamples.{atom}
 
 -- so many times the same
 abbrev pub copies : {T : Type 0} → ℕ → T → List T
