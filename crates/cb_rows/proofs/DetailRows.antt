@@ -165,4 +165,14 @@ rows_hold = record {
   fact_with_body = bodied refl;
   second_spec = second_spec _ refl refl refl;
   driven_twice = refl;
+  compound_tree = refl;
+  joined_list = refl;
+  one_bit = refl;
+  one_integer = refl;
+  stop_lines = refl;
+  token_refusals = refl;
+  reading_refusals = refl;
+  sort_refusals = refl;
+  fact_refusals = refl;
+  refusal_numbers = refl;
 }

@@ -16,11 +16,17 @@ use Rattle.cb_model.specs.Line.{Names, bus_text, line_text, is_wide}
 use Rattle.cb_model.specs.Room.{branch_size, widest}
 use Rattle.cb_model.specs.Grammar.{Form, Last, More, one, Name, Variable, Integer, Closed, Open, Not, And, FormGoal, ACall, AnEqual, FormClause, Directive, Rule}
 use Rattle.cb_model.specs.Written.{clause_written, query_written, parts_of}
-use Rattle.cb_model.specs.Directives.{directives, nothing, BadDirective, Twice, constant_argument}
-use Rattle.cb_model.specs.Sorts.{HasSort, Var, apart, own_name}
+use Rattle.cb_model.specs.Directives.{SortClash, Unknown, Declared, directives, nothing, BadDirective, Twice, constant_argument}
+use Rattle.cb_model.specs.Sorts.{Numbering, as_tree, HasSort, Var, apart, own_name}
 use Rattle.cb_model.specs.Loading.{query_body, goal_unknown, is_taken}
 use Rattle.cb_model.specs.Facts.{no_circuits, with_spec, with_module, FactReads, ModuleRefusal, Pins, Driven}
 use Rattle.cb_model.specs.Facts as facts
+use Rattle.cb_model.specs.Tokens.{Byte, Number, Quote}
+use Rattle.cb_model.specs.Grammar.{Syntax, Unfinished, Deep, Whole}
+use Rattle.cb_model.specs.Refusals.{refusal_line}
+use Rattle.cb_model.specs.Derivation.{Stopped}
+use Rattle.cb_model.specs.Output.{end_text, fault_refused, reading_refused, sort_refused, fact_refused}
+use Rattle.std.specs.Prelude.{map, option_map}
 use Rattle.cb_rows.specs.DelayRow as delay
 use Rattle.cb_rows.specs.CircuitGoalRow as circuit
 use Rattle.cb_rows.specs.CircuitExamples.{half_adder, A, B, with_pins}
@@ -75,6 +81,14 @@ places_goals =
 -- `circuit(m, B, [])`
 abbrev pub circuit_call : Form
 circuit_call = Name (codes "circuit") (More (atom (codes "m")) (More (Variable (codes "B")) (one (Closed Last))))
+
+-- X is the first variable, T the second, and a the first constant
+abbrev pub numbers_of : Numbering
+numbers_of = record { variables = codes "X" ∷ codes "T" ∷ []; constants = codes "a" ∷ []; names = (codes "f", 2) ∷ [] }
+
+-- `f/2` has a Boolean argument and a bus
+abbrev pub f_declared : Declared
+f_declared = record nothing { sorts = ((codes "f", 2), sort.Bool ∷ sort.Bus ∷ []) ∷ [] }
 
 pub record DetailExamples : Type 0 where
   -- the clauses of one predicate, passing over those of others
@@ -156,3 +170,23 @@ pub record DetailExamples : Type 0 where
       (with_spec no_circuits spec)
   pub driven_twice : ModuleRefusal [] (record half_adder { instances = with_pins (A ∷ B ∷ []) (codes "S" ∷ []) (codes "xor") ∷ with_pins (A ∷ B ∷ []) (codes "S" ∷ []) (codes "and") ∷ []; outputs = codes "S" ∷ [] })
       (Some Driven)
+  -- trees: a compound with its declared sorts, a list whose tail is a list, and 1 at its two sorts
+  pub compound_tree : as_tree f_declared numbers_of sort.Term (Name (codes "f") (More (atom (codes "a")) (one (Open (one (Variable (codes "X"))) (Variable (codes "T")))))) ≡
+      tree.Node 0 (tree.Leaf (expr.Const 0) ∷ tree.Bus (expr.Var 0 ∷ []) (Some 1) ∷ [])
+  pub joined_list : as_tree f_declared numbers_of sort.Bus (Open (one (Integer (pos 1))) (Closed (one (Integer (pos 0))))) ≡ tree.Bus (expr.One ∷ expr.Zero ∷ []) None
+  pub one_bit : as_tree f_declared numbers_of sort.Bool (Integer (pos 1)) ≡ tree.Leaf expr.One
+  pub one_integer : as_tree f_declared numbers_of sort.Term (Integer (pos 1)) ≡ tree.Int (pos 1)
+  -- the last lines of queries
+  pub stop_lines : map (λ b. end_text (Stopped b) []) (Resolutions ∷ Variables ∷ Equations ∷ []) ≡
+      codes "stopped: resolutions" ∷ codes "stopped: variables" ∷ codes "stopped: equations" ∷ []
+  -- the lines of refusals
+  pub token_refusals : map (λ f. refusal_line (fault_refused f)) (Byte 0 ∷ Number 12 ∷ Quote 3 ∷ []) ≡
+      codes "error: byte 0: unexpected byte" ∷ codes "error: byte 12: number out of range" ∷ codes "error: byte 3: unclosed quote" ∷ []
+  pub reading_refusals : map (λ r. option_map refusal_line (reading_refused {A = FormClause} r)) (Syntax 1 ∷ Unfinished 2 ∷ Deep 3 ∷ Whole [] ∷ []) ≡
+      Some (codes "error: line 1: syntax") ∷ Some (codes "error: line 2: unfinished clause") ∷ Some (codes "error: line 3: nested too deep") ∷ None ∷ []
+  pub sort_refusals : map (λ r. refusal_line (sort_refused (r, 4))) (BadDirective ∷ SortClash ∷ Unknown ∷ Twice ∷ []) ≡
+      codes "error: line 4: bad directive" ∷ codes "error: line 4: sort clash" ∷ codes "error: line 4: unknown name" ∷ codes "error: line 4: declared twice" ∷ []
+  pub fact_refusals : map (λ r. refusal_line (fact_refused (r, 5))) (facts.Twice ∷ Pins ∷ Driven ∷ facts.Cycle ∷ facts.Part ∷ facts.Large ∷ []) ≡
+      codes "error: line 5: declared twice" ∷ codes "error: line 5: bad pins" ∷ codes "error: line 5: net not driven once" ∷ codes "error: line 5: cycle in a module" ∷
+      codes "error: line 5: unknown part" ∷ codes "error: line 5: circuit too large" ∷ []
+  pub refusal_numbers : map (λ r. (fact_refused (r, 5)).number) (facts.Twice ∷ Pins ∷ Driven ∷ facts.Cycle ∷ facts.Part ∷ facts.Large ∷ []) ≡ 10 ∷ 11 ∷ 12 ∷ 13 ∷ 14 ∷ 15 ∷ []
