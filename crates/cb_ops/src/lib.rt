@@ -2,7 +2,9 @@
 #![tactic(auto)]
 
 ghost use Rattle.std.specs.Prelude.{◌≡◌, ◌≢◌, ◌⊎◌, ℕ, Bool, not, ◌&&◌, ◌||◌, ◌+◌, ◌-◌, ◌*◌, ◌<◌, ◌≤◌, ◌^◌, ◌↔◌, [], ◌∷◌, ◌++◌, List, length, take, Some, None, Ok, Err, IfOk, OnOk, OnErr, IfSome, IfNone, IsTrue, true, false, if◌then◌else◌};
-ghost use Rattle.cb_model.specs.Bits.{Bits, xor};
+ghost use Rattle.cb_model.specs.Bits.{Bits, xor, put};
+ghost use Rattle.indexmap.specs.IndexMap.{get};
+ghost use Rattle.cb_ops.specs.Done.{AllRestricted, node_eq};
 ghost use Rattle.cb_dd.specs.Diagram.{Store, IsDiagram, IsCanonical, IsNode, IsChild, IsFull, HasParts, Holds, function_of, level_of, fulls_after, parts_of, triple};
 ghost use Rattle.std.specs.List.Sorted.{IsStrictlyIncreasing};
 ghost use Rattle.cb_ops.specs.Ops.{Grows, StandsFor, IsIte, IsCofactor, Room, HasCause, DependsOn, IsLeastTrue, IsLeastSide};
@@ -273,6 +275,87 @@ impl Ops {
         Ok(n)
     }
 
+    /// The node with that bit at the level: a cofactor.
+    pub fn restrict(&mut self, f: Node, level: u32, bit: bool) -> Result<Node, Stop>
+        requires { IsNode self.old.triples f.0 }
+        ensures is_node { IfOk result (λ n. IsNode self.new.triples n.0) }
+        ensures function { IfOk result (λ n. StandsFor self.new.triples n.0 (λ a.
+            function_of self.old.triples f.0 (put level bit a))) }
+        ensures grows { Grows self.old self.new }
+        ensures room { Room (f.0 ∷ []) 1 self.old self.new }
+        ensures full { result ≡ Err Stop.Nodes → length self.new.triples ≡ self.new.budget }
+        ensures nodes { result ≡ Err Stop.Nodes → HasCause (f.0 ∷ []) 1 self.old self.new }
+        ensures unbounded { self.old.budget ≡ 2 ^ 64 - 1 → result ≢ Err Stop.Nodes }
+        ensures fulls { self.new.fulls ≡ fulls_after self.old.fulls result }
+        ensures diagram { IsDiagram self.new.triples }
+    {
+        let mut done = IndexMap::new(*self.memo.allocator());
+        let n = self.restrict_in(f, level, bit, &mut done)?;
+        Ok(n)
+    }
+
+    /// The node that is 1 where the node is for some bit at the level.
+    pub fn exists(&mut self, f: Node, level: u32) -> Result<Node, Stop>
+        requires { IsNode self.old.triples f.0 }
+        ensures is_node { IfOk result (λ n. IsNode self.new.triples n.0) }
+        ensures function { IfOk result (λ n. StandsFor self.new.triples n.0 (λ a.
+            function_of self.old.triples f.0 (put level false a)
+            || function_of self.old.triples f.0 (put level true a))) }
+        ensures grows { Grows self.old self.new }
+        ensures room { Room (f.0 ∷ []) 3 self.old self.new }
+        ensures full { result ≡ Err Stop.Nodes → length self.new.triples ≡ self.new.budget }
+        ensures nodes { result ≡ Err Stop.Nodes → HasCause (f.0 ∷ []) 3 self.old self.new }
+        ensures unbounded { self.old.budget ≡ 2 ^ 64 - 1 → result ≢ Err Stop.Nodes }
+        ensures fulls { self.new.fulls ≡ fulls_after self.old.fulls result }
+        ensures diagram { IsDiagram self.new.triples }
+    {
+        let low = self.restrict(f, level, false)?;
+        let high = self.restrict(f, level, true)?;
+        let n = self.or(low, high)?;
+        Ok(n)
+    }
+
+    // The same as `restrict`, with the nodes for which it is done.
+    fn restrict_in(
+        &mut self,
+        f: Node,
+        level: u32,
+        bit: bool,
+        done: &mut IndexMap<Node, Node>,
+    ) -> Result<Node, Stop>
+        requires f { IsNode self.old.triples f.0 }
+        requires done { AllRestricted done.old self.old.triples level bit }
+        ensures is_node { IfOk result (λ n. IsNode self.new.triples n.0) }
+        ensures function { IfOk result (λ n. StandsFor self.new.triples n.0 (λ a.
+            function_of self.old.triples f.0 (put level bit a))) }
+        ensures grows { Grows self.old self.new }
+        ensures room { Room (f.0 ∷ []) 1 self.old self.new }
+        ensures full { result ≡ Err Stop.Nodes → length self.new.triples ≡ self.new.budget }
+        ensures unbounded { self.old.budget ≡ 2 ^ 64 - 1 → result ≢ Err Stop.Nodes }
+        ensures fulls { self.new.fulls ≡ fulls_after self.old.fulls result }
+        ensures diagram { IsDiagram self.new.triples }
+        ensures done { AllRestricted done.new self.new.triples level bit }
+    {
+        let _count = self.count();
+        let Some((at, lo, hi)) = self.parts(f) else {
+            return Ok(f);
+        };
+        if level < at {
+            return Ok(f);
+        }
+        if level == at {
+            return Ok(if bit { hi } else { lo });
+        }
+        if let Some(r) = recall_in(done, f) {
+            return Ok(r);
+        }
+        let low = self.restrict_in(lo, level, bit, done)?;
+        let high = self.restrict_in(hi, level, bit, done)?;
+        let r = self.node(at, low, high)?;
+        remember(done, f, r);
+        Ok(r)
+    }
+
     /// Whether the node is 1 at some assignment; if so, `into` becomes the least that makes it so, its i-th bit for
     /// the level at place i: 0 before 1, and the first level weighs most. Else `into` is kept.
     pub fn least_true(&self, f: Node, levels: &[u32], into: &mut [bool]) -> bool
@@ -427,4 +510,19 @@ fn call_of(f: Node, g: Node, h: Node) -> Option<Call>
         return None;
     };
     Some(Call { f, g, h })
+}
+
+// What was remembered for the node.
+fn recall_in(done: &IndexMap<Node, Node>, n: Node) -> Option<Node>
+    ensures { IfSome result (λ r. get node_eq done.now n ≡ Some r) }
+{
+    done.get(&n).copied()
+}
+
+// Remembers the answer for the node; where there is no memory for it, nothing more is remembered.
+fn remember(done: &mut IndexMap<Node, Node>, n: Node, r: Node)
+    ensures { (q v : Node) → get node_eq done.new q ≡ Some v
+        → ((q ≡ n) × (v ≡ r)) ⊎ (get node_eq done.old q ≡ Some v) }
+{
+    let _ = done.insert(n, r);
 }
