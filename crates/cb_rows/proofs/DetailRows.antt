@@ -17,15 +17,15 @@ use Rattle.cb_model.specs.Equations.{Meets}
 use Rattle.cb_model.specs.Derivation.{WordHolds, Empty, NotEmpty}
 use Rattle.cb_model.specs.Answers.{leaves, leaves_step, products_text, product_text}
 use Rattle.cb_model.specs.Line.{is_wide, places, places_step}
-use Rattle.cb_model.specs.Grammar.{Form, Variable, Open, Not, one}
-use Rattle.cb_model.specs.Sorts.{Body, Marked, at_place, by_form, to_side, left, right, Var}
+use Rattle.cb_model.specs.Grammar.{Closed, Or, More, Form, Variable, Open, Not, one}
+use Rattle.cb_model.specs.Sorts.{Equation, Body, Marked, at_place, by_form, to_side, left, right, Var}
 use Rattle.cb_model.specs.Directives.{nothing}
 use Rattle.cb_model.specs.Loading.{query_body}
 use Rattle.cb_model.specs.Facts.{bodied, second_spec}
 use Rattle.cb_laws.proofs.Values.{expr_values, tree_values}
 use Rattle.cb_laws.proofs.Tables.{with_bits, zero_fits, bits_equal}
 use Rattle.cb_laws.proofs.Shapes.{size_values}
-use Rattle.cb_rows.specs.DetailExamples.{copies, x_is_a, world, letter, literal, places_goals, DetailExamples}
+use Rattle.cb_rows.specs.DetailExamples.{operand_goals, copies, x_is_a, world, letter, literal, places_goals, DetailExamples}
 
 -- ---- delay words
 
@@ -106,6 +106,15 @@ x_bus = to_side 0 (left tailed refl) (by_form tailed (right (Variable (codes "X"
 z_term : Marked nothing b (Var (codes "Z")) sort.Term
 z_term = at_place (3, lit< tt, refl)
 
+abbrev d : Body
+d = query_body operand_goals
+
+l_bus : Marked nothing d (Var (codes "L")) sort.Bus
+l_bus = to_side 0 (left (Closed (one (Variable (codes "E")))) refl) (by_form (Closed (one (Variable (codes "E")))) (right (Variable (codes "L")) refl) refl)
+
+x_bool : Marked nothing d (Equation 1) sort.Bool
+x_bool = by_form (Or (More (Variable (codes "A")) (one (Variable (codes "B"))))) (right (Variable (codes "X")) refl) refl
+
 pub rows_hold : DetailExamples
 unfolding digits
 rows_hold = record {
@@ -153,6 +162,11 @@ rows_hold = record {
   last_constant = refl;
   too_many_constants = refl;
   operand_sort = inl (at_place (1, lit< tt, refl));
+  element_sort = inl (at_place (0, lit< tt, refl));
+  chain_sort = inl (at_place (2, lit< tt, refl));
+  inner_sort = inl (at_place (5, lit< tt, refl));
+  closed_sort = inl l_bus;
+  operator_sort = inl x_bool;
   tail_sort = inl (at_place (2, lit< tt, refl));
   list_sort = inl x_bus;
   argument_sort = inl z_term;

@@ -14,10 +14,10 @@ use Rattle.cb_model.specs.Derivation.{Branch, resolved, waits, passed, Resolutio
 use Rattle.cb_model.specs.Answers.{Product, products_text}
 use Rattle.cb_model.specs.Line.{Names, bus_text, line_text, is_wide}
 use Rattle.cb_model.specs.Room.{branch_size, widest}
-use Rattle.cb_model.specs.Grammar.{Form, Last, More, one, Name, Variable, Integer, Closed, Open, Not, And, FormGoal, ACall, AnEqual, FormClause, Directive, Rule}
+use Rattle.cb_model.specs.Grammar.{Form, Last, More, one, Name, Variable, Integer, Closed, Open, Not, And, Or, FormGoal, ACall, AnEqual, FormClause, Directive, Rule}
 use Rattle.cb_model.specs.Written.{clause_written, query_written, parts_of}
 use Rattle.cb_model.specs.Directives.{SortClash, Unknown, Declared, directives, nothing, BadDirective, Twice, constant_argument}
-use Rattle.cb_model.specs.Sorts.{Numbering, as_tree, HasSort, Var, apart, own_name}
+use Rattle.cb_model.specs.Sorts.{Numbering, as_tree, HasSort, Var, Equation, apart, own_name}
 use Rattle.cb_model.specs.Loading.{query_body, goal_unknown, is_taken}
 use Rattle.cb_model.specs.Facts.{no_circuits, with_spec, with_module, FactReads, ModuleRefusal, Pins, Driven}
 use Rattle.cb_model.specs.Facts as facts
@@ -77,6 +77,13 @@ directive word f = Directive 1 word (one f)
 abbrev pub places_goals : List FormGoal
 places_goals =
     AnEqual (Variable (codes "X")) (Open (one (Not (Variable (codes "Y")))) (Variable (codes "T"))) ∷ ACall (Name (codes "f") (one (Variable (codes "Z")))) ∷ []
+
+-- `L = [E], X = A + B, f(g([D]))`
+abbrev pub operand_goals : List FormGoal
+operand_goals =
+    AnEqual (Variable (codes "L")) (Closed (one (Variable (codes "E")))) ∷
+    AnEqual (Variable (codes "X")) (Or (More (Variable (codes "A")) (one (Variable (codes "B"))))) ∷
+    ACall (Name (codes "f") (one (Name (codes "g") (one (Closed (one (Variable (codes "D")))))))) ∷ []
 
 -- `circuit(m, B, [])`
 abbrev pub circuit_call : Form
@@ -150,6 +157,11 @@ pub record DetailExamples : Type 0 where
   pub too_many_constants : (constant_argument (record nothing { constants = copies 4096 (codes "a") }) (atom (codes "a"))).0 ≡ Some BadDirective
   -- sorts: of the operand of `~`, of a tail, of a list's equation, and of an argument without declared sorts
   pub operand_sort : HasSort nothing (query_body places_goals) (Var (codes "Y")) sort.Bool
+  pub element_sort : HasSort nothing (query_body operand_goals) (Var (codes "E")) sort.Bool
+  pub chain_sort : HasSort nothing (query_body operand_goals) (Var (codes "B")) sort.Bool
+  pub inner_sort : HasSort nothing (query_body operand_goals) (Var (codes "D")) sort.Bool
+  pub closed_sort : HasSort nothing (query_body operand_goals) (Var (codes "L")) sort.Bus
+  pub operator_sort : HasSort nothing (query_body operand_goals) (Equation 1) sort.Bool
   pub tail_sort : HasSort nothing (query_body places_goals) (Var (codes "T")) sort.Bus
   pub list_sort : HasSort nothing (query_body places_goals) (Var (codes "X")) sort.Bus
   pub argument_sort : HasSort nothing (query_body places_goals) (Var (codes "Z")) sort.Term
