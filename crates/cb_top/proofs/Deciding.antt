@@ -10,7 +10,7 @@ use Rattle.cb_model.specs.FirstForm.{PairSpec, FirstForm, pair_exprs}
 use Rattle.cb_model.specs.Commands.{Nodes, Max, Only}
 use Rattle.cb_model.specs.Refusals.{refusal_line, unbuilt}
 use Rattle.cb_model.specs.Verdicts.{differs_text, agrees, differs, stopped}
-use Rattle.cb_model.specs.Built.{VerifySays, not_first, compared, flat_room}
+use Rattle.cb_model.specs.Built.{not_first, compared, flat_room}
 use Rattle.cb_model.specs.Room.{room_v, circuit_pins, instance_pins, expr_size}
 use Rattle.cb_model.specs.Output.{BelowNodes}
 use Rattle.std.proofs.Math.Nat.{mul-le-mul_right}
@@ -73,7 +73,7 @@ module _ (file name : Text) (nodes : Nodes) (circuit : Circuit) (ports : List Te
       let here : budget_of nodes < room_v (circuit_pins c) (bound exprs) (length c.outputs) c.inputs = subst (λ k. budget_of nodes < room_v (circuit_pins k) (bound exprs) (length k.outputs) k.inputs) r.circuit_is l in
       let same : budget_of nodes < room_v (circuit_pins c) (bound (pair_exprs r.s)) (length c.outputs) c.inputs = subst (λ es. budget_of nodes < room_v (circuit_pins c) (bound es) (length c.outputs) c.inputs) r.exprs_are here in
       let below : BelowNodes nodes (flat_room r.m (pair_exprs r.s)) =
-          below-room nodes _ _ h same (room_v-more (circuit_pins c) (instance_pins r.m) (bound (pair_exprs r.s)) (length c.outputs) c.inputs) in
+      below-room nodes _ _ h same (room_v-more (circuit_pins c) (instance_pins r.m) (bound (pair_exprs r.s)) (length c.outputs) c.inputs) in
       subst (Decides file name nodes text) (sym e) (record { lines = codes "stopped: nodes" ∷ []; says = compared r.m r.s short r.form (stopped below refl); is = t })
 
   -- the input of a difference has a bit for each port

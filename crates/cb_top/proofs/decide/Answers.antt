@@ -2,7 +2,7 @@ use Rattle.std.proofs.Common.{◌≡◌, ◌<◌, refl, ap, subst, ◌∙◌, ma
 use Rattle.cb_dd.specs.declared.Stop.TheVariants.{Nodes}
 use Rattle.cb_model.specs.Room.{room_v, circuit_pins, expr_size}
 use Rattle.cb_top.specs.Words.{nodes_view}
-use Rattle.cb_top.proofs.Deciding.{WasRead, decides-unbuilt, decides-stopped, decides-verdict, was-read, not-read}
+use Rattle.cb_top.proofs.Deciding.{decides-unbuilt, decides-stopped, decides-verdict, was-read, not-read}
 use Rattle.cb_top.proofs.Outputs.{if-ok}
 use Rattle.cb_top.proofs.decide.Goals as goal
 
@@ -20,7 +20,7 @@ returns-in-Err-Nodes c =
     let r = was-read c.args.bytes.now c.args.name.now c.in_ok-first.field-0 c.in-Some.first c.in-Some.first.names c.as_slice.result.now c.in-Some.is refl c.as_slice.ensures c.in_ok-first.ensures.form in
     let e : Err c.in-Err-Nodes.field-0 ≡ Err Nodes = ap (λ x. Err x) c.in-Err-Nodes.field-0-is in
     decides-stopped _ _ (nodes_view c.args.nodes) _ _ _ c.requires r _ _
-      (λ m. c.in-Err-Nodes.ensures.unbounded e (c.budget.ensures ∙ m))
-      (subst (λ n. n < room_v (circuit_pins c.in-Some.first.circuit) (sum (map expr_size c.as_slice.result.now)) (length c.in-Some.first.circuit.outputs) c.in-Some.first.circuit.inputs)
-        c.budget.ensures (c.in-Err-Nodes.ensures.nodes e))
-      c.stopped.ensures.line c.stopped.ensures.outcome
+    (λ m. c.in-Err-Nodes.ensures.unbounded e (c.budget.ensures ∙ m))
+    (subst (λ n. n < room_v (circuit_pins c.in-Some.first.circuit) (sum (map expr_size c.as_slice.result.now)) (length c.in-Some.first.circuit.outputs) c.in-Some.first.circuit.inputs)
+    c.budget.ensures (c.in-Err-Nodes.ensures.nodes e))
+    c.stopped.ensures.line c.stopped.ensures.outcome
