@@ -171,12 +171,16 @@ finish-prints : (files : Option (List (Text × Text))) (words : List Text) (text
 finish-prints files words text wanted result before after faults now a (whole e w) = record {
   file = a.file;
   file_told = a.file_told;
-  told = λ all t. let b = w.told all t in (b.0, text, b.1, b.2, subst (Appends words a.file text) (sym e) (appends-whole words a.file text wanted (output-outcome words a.file text wanted a.output).ends a.output));
+  text = text;
+  appends = subst (Appends words a.file text) (sym e) (appends-whole words a.file text wanted (output-outcome words a.file text wanted a.output).ends a.output);
+  wrote = w;
 }
 finish-prints files words text wanted result before after faults now a (broken n e w r) = record {
   file = a.file;
   file_told = a.file_told;
-  told = λ all t. let b = w.told all t in (b.0, take n text, b.1, b.2, subst (Appends words a.file (take n text)) (sym e) (begins text wanted a.output (prefix-of n text)));
+  text = take n text;
+  appends = subst (Appends words a.file (take n text)) (sym e) (begins text wanted a.output (prefix-of n text));
+  wrote = w;
 }
 
 appends-nothing : (words : List Text) (file : Text) (faults now : ℕ) (o : Outcome) → BreaksOff faults now o → Appends words file [] o
@@ -187,7 +191,9 @@ pub break-prints : (files : Option (List (Text × Text))) (words : List Text) (r
 break-prints files words result before faults now b = record {
   file = told_bytes files words;
   file_told = λ list p. ap (λ f. told_bytes f words) p;
-  told = λ all t. (all, [], t, sym (append-nil all), appends-nothing words (told_bytes files words) faults now result b);
+  text = [];
+  appends = appends-nothing words (told_bytes files words) faults now result b;
+  wrote = record { told = λ all t. (all, t, sym (append-nil all)) };
 }
 
 -- ---- the causes
