@@ -1,1 +1,2 @@
 pub mod TokenList
+pub mod Machine
