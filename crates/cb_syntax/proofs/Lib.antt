@@ -1,3 +1,4 @@
 pub mod Listing
 pub mod Parts
 pub mod Back
+pub mod Fore
