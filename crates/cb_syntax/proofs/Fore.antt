@@ -90,7 +90,7 @@ plus_then is t ts us vs c p =
 
 -- ---- what an item that reads says of the first token
 
-abbrev Fore-item : Move → Item → Token → List Token → List Token → Type 0
+abbrev pub Fore-item : Move → Item → Token → List Token → List Token → Type 0
 Fore-item (Takes js) i t ts us = Part js ts us ⊎ ((us ≡ t ∷ ts) × (is_optional i ≡ true))
 Fore-item Skips i t ts us = us ≡ t ∷ ts
 Fore-item Refuses i t ts us = ⊥

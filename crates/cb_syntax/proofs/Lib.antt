@@ -2,3 +2,4 @@ pub mod Listing
 pub mod Parts
 pub mod Back
 pub mod Fore
+pub mod Stack
