@@ -3,3 +3,5 @@ pub mod Parts
 pub mod Back
 pub mod Fore
 pub mod Stack
+pub mod Run
+pub mod Whole

@@ -1,2 +1,3 @@
 pub mod TokenList
 pub mod Machine
+pub mod Answers

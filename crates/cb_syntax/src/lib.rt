@@ -1,6 +1,7 @@
 //! Clauses and queries from text.
 #![tactic(auto)]
 
+mod read;
 mod token_list;
 
 pub use token_list::{TokensError, tokens};
