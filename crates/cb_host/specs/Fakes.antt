@@ -1,5 +1,5 @@
 -- What the objects in memory hold, and which of their calls fail.
-use Rattle.std.specs.Prelude.{ℕ, ◌+◌, ◌-◌, ◌^◌, min, Bool, true, false, not, ◌&&◌, ◌||◌, ◌==◌, if◌then◌else◌, List, [], ◌∷◌, length, map, string_bytes, bytes_eq}
+use Rattle.std.specs.Prelude.{ℕ, ◌+◌, ◌-◌, ◌^◌, min, Bool, not, ◌&&◌, ◌||◌, ◌==◌, nat_le, if◌then◌else◌, List, ◌++◌, length, take, map, Option, Some, None, string_bytes, bytes_eq}
 use Rattle.std.specs.List.{list_any}
 use Rattle.std.specs.declared.string.String.{String}
 use Rattle.std.specs.declared.vec.Vec.{Vec}
@@ -54,3 +54,34 @@ write_fails s len = is_failing s.failing (next_number s.calls) || (not (len == 0
 -- how many bytes of a piece of this length the next write takes, if it doesn't fail
 abbrev pub write_takes : Writing → ℕ → ℕ
 write_takes s len = min (min len s.step) (s.room - length s.written)
+
+-- a source in memory: the bytes left, how many a call gives at most, the numbers of the calls that fail, how many calls
+-- and faults came
+pub record Reading : Type 0 where
+  pub left : Text
+  pub step : ℕ
+  pub failing : List ℕ
+  pub calls : ℕ
+  pub faults : ℕ
+
+-- whether the next read fails: its number is to fail
+abbrev pub read_fails : Reading → Bool
+read_fails s = is_failing s.failing (next_number s.calls)
+
+-- how many bytes the next read gives to a buffer of this length, if it doesn't fail
+abbrev pub read_gives : Reading → ℕ → ℕ
+read_gives s len = min (min len s.step) (length s.left)
+
+-- a sink that never fails: what it kept, how many bytes it keeps at most, and whether that is all that was written
+pub record Keeping : Type 0 where
+  pub kept : Text
+  pub room : ℕ
+  pub whole : Bool
+
+-- the bytes that it tells: all that was written, until it was handed more than it keeps
+abbrev pub told_of : Keeping → Option Text
+told_of s = if s.whole then Some s.kept else None
+
+-- the sink after a piece
+abbrev pub after_piece : Keeping → Text → Keeping
+after_piece s piece = record s { kept = s.kept ++ take (s.room - length s.kept) piece; whole = s.whole && nat_le (length piece) (s.room - length s.kept) }

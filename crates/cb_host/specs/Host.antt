@@ -1,5 +1,5 @@
 -- What files, sources and sinks promise.
-use Rattle.std.specs.Prelude.{◌≡◌, ℕ, ◌+◌, ◌<◌, ◌≤◌, ◌↔◌, [], length, take, drop, Option, Some, None}
+use Rattle.std.specs.Prelude.{Bool, true, false, ◌≡◌, ℕ, ◌+◌, ◌<◌, ◌≤◌, ◌↔◌, [], length, take, drop, Option, Some, None}
 use Rattle.cb_model.specs.Text.{Text}
 use Rattle.cb_host.specs.declared.Load.{Load}
 use Rattle.cb_host.specs.declared.Load.TheVariants.{Done, Long, Failed as LoadFailed, Memory}
@@ -8,6 +8,13 @@ use Rattle.cb_host.specs.declared.Load.TheVariants.{Done, Long, Failed as LoadFa
 abbrev pub IfTold : {A : Type 0} → Option A → (A → Type 0) → Type 0
 IfTold None P = Unit {0}
 IfTold (Some x) P = P x
+
+-- whether a load failed
+abbrev pub is_failed : Load → Bool
+is_failed Done = false
+is_failed Long = false
+is_failed LoadFailed = true
+is_failed Memory = false
 
 -- how much a load leaves in the buffer, whether or not the files are told
 abbrev pub HasLength : ℕ → Load → Text → Type 0

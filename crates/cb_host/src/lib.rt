@@ -5,12 +5,19 @@ ghost use Rattle.std.specs.Prelude.{◌≡◌, ℕ, ◌<◌, ◌≤◌, List, []
 ghost use Rattle.cb_model.specs.Outside.{Rose, Wrote, bytes_named};
 ghost use Rattle.cb_host.specs.Host.{IfTold, HasLength, Loads, Reads};
 
-pub use memory::MemSink;
+use thiserror::Error;
 
+pub use host::{HostFiles, HostInput, HostOutput};
+pub use memory::{MemFiles, MemSink, MemSource};
+pub use sure::{SureFiles, SureSink, SureSource};
+
+mod host;
 mod memory;
+mod sure;
 
 /// A read or a write failed.
-#[derive(Clone, Copy, PartialEq, Eq, Debug)]
+#[derive(Clone, Copy, PartialEq, Eq, Debug, Error)]
+#[error("a read or a write failed")]
 pub struct Failed;
 
 /// How a file was loaded.
@@ -97,3 +104,6 @@ pub fn write_all<S: Sink>(out: &mut S, piece: &[u8]) -> Result<(), Failed>
     }
     Ok(())
 }
+
+#[cfg(test)]
+mod tests;

@@ -3,8 +3,21 @@ pub mod Text
 pub mod Values
 pub mod Circuits
 pub mod Sound
+pub mod Equations
+pub mod Program
+pub mod Derivation
+pub mod Answers
+pub mod Line
+pub mod Room
 pub mod Tokens
 pub mod Grammar
+pub mod Written
+pub mod Forms
+pub mod Directives
+pub mod Sorts
+pub mod Loading
+pub mod Facts
+pub mod Adder
 pub mod FirstForm
 pub mod Outcomes
 pub mod Outside
@@ -12,4 +25,5 @@ pub mod Commands
 pub mod Refusals
 pub mod Verdicts
 pub mod Built
+pub mod Output
 pub mod Top

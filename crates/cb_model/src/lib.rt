@@ -119,6 +119,58 @@ pub struct Circuit {
     pub gates: Items<Gate>,
 }
 
+/// A term as written, its names lent from the text. A quoted name stands without its quotes.
+#[derive(Drop)]
+pub enum RawTerm<'s> {
+    /// A variable by its name; each `_` is a variable of its own.
+    Variable(&'s [u8]),
+    Integer(i64),
+    /// A name with its arguments; an atom has none.
+    Name(&'s [u8], Items<RawTerm<'s>>),
+    /// A list by its elements and perhaps its tail; one with a tail has an element at least.
+    List(Items<RawTerm<'s>>, Option<Boxed<RawTerm<'s>>>),
+    /// `~`
+    Not(Boxed<RawTerm<'s>>),
+    /// A chain of `*`, two operands at least.
+    And(Items<RawTerm<'s>>),
+    /// A chain of `#`, two operands at least.
+    Xor(Items<RawTerm<'s>>),
+    /// A chain of `+`, two operands at least.
+    Or(Items<RawTerm<'s>>),
+}
+
+/// A goal as written: a name with its arguments, or an equation by its two sides.
+#[derive(Drop)]
+pub enum RawGoal<'s> {
+    Call(RawTerm<'s>),
+    Equal(RawTerm<'s>, RawTerm<'s>),
+}
+
+/// A clause as written, with the line of its first token, counted from 1.
+#[derive(Drop)]
+pub enum RawClause<'s> {
+    /// `:-` with a word and its arguments, one at least.
+    Directive {
+        line: u32,
+        word: &'s [u8],
+        args: Items<RawTerm<'s>>,
+    },
+    /// A head, which is a name, and a body, which is empty exactly where no `:-` stands.
+    Rule {
+        line: u32,
+        head: RawTerm<'s>,
+        bodied: bool,
+        body: Items<RawGoal<'s>>,
+    },
+}
+
+/// A query as written, with the line of its first token, counted from 1, and its goals, one at least.
+#[derive(Drop)]
+pub struct RawQuery<'s> {
+    pub line: u32,
+    pub goals: Items<RawGoal<'s>>,
+}
+
 /// The kind of a token.
 #[derive(Clone, Copy, PartialEq, Eq, Debug)]
 pub enum Kind {

@@ -1,1 +1,4 @@
 pub mod Numbers
+pub mod Inputs
+pub mod Outputs
+pub mod Deciding

@@ -1,12 +1,12 @@
 -- Decimal numbers up to a limit.
-use Rattle.std.proofs.Common.{◌≡◌, ℕ, zero, suc, ◌+◌, ◌-◌, ◌*◌, ◌<◌, ◌≤◌, ◌≢◌, Bool, true, false, not, ◌&&◌, nat_le, ◌==◌, if◌then◌else◌, List, [], ◌∷◌, length, drop, get_or, Option, Some, None, option_and_then, refl, sym, ap, ◌∙◌, arith, ◌⊎◌, inl, inr, rules}
+use Rattle.std.proofs.Common.{◌≡◌, ℕ, suc, ◌+◌, ◌-◌, ◌*◌, ◌<◌, ◌≤◌, ◌≢◌, Bool, true, false, not, ◌&&◌, nat_le, if◌then◌else◌, [], ◌∷◌, length, drop, get_or, Option, Some, None, option_and_then, refl, sym, ap, ◌∙◌, arith, ◌⊎◌, inl, inr}
 use Rattle.std.specs.List.{list_all}
 use Rattle.std.proofs.lemmas.Bool.{cases_Bool, and_parts}
 use Rattle.std.proofs.Math.Seq.{drop-cons}
 use Rattle.std.proofs.lemmas.List.{drop_all}
 use Rattle.std.proofs.lemmas.Grind.{common_steps}
 use Rattle.cb_model.specs.Text.{Text, is_digit}
-use Rattle.cb_model.specs.Tokens.{digits_value, is_number}
+use Rattle.cb_model.specs.Tokens.{digits_value}
 use Rattle.cb_model.specs.Commands.{number_upto, leads_zero}
 use Rattle.cb_top.specs.Words.{digit_upto, digits_upto}
 
@@ -72,7 +72,7 @@ pub number_upto-digits : (limit : ℕ) (w : Text) → 0 < length w → get_or w 
 number_upto-digits limit [] l h = absurd (omega arith)
 number_upto-digits limit (x ∷ xs) l h =
     pick (list_all is_digit (x ∷ xs)) (leads_zero (x ∷ xs)) (nat_le 1 (digits_value 0 (x ∷ xs))) (nat_le (digits_value 0 (x ∷ xs)) limit) (digits_value 0 (x ∷ xs))
-      (no_zero x xs h) (at_least_one x xs h)
+    (no_zero x xs h) (at_least_one x xs h)
     ∙ sym (digits_upto-whole limit 0 (x ∷ xs) (omega arith))
 
 none_zero : (all one fits : Bool) (n : ℕ) → (if all && false && one && fits then Some n else None) ≡ None

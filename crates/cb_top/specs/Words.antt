@@ -1,5 +1,5 @@
 -- The words of the command line, without their places in memory.
-use Rattle.std.specs.Prelude.{◌≡◌, ℕ, ◌+◌, ◌-◌, ◌*◌, ◌^◌, nat_le, if◌then◌else◌, List, [], ◌∷◌, Option, Some, None, option_and_then}
+use Rattle.std.specs.Prelude.{ℕ, ◌+◌, ◌-◌, ◌*◌, ◌^◌, nat_le, if◌then◌else◌, [], ◌∷◌, Option, Some, None, option_and_then}
 use Rattle.cb_model.specs.Text.{Text, is_digit}
 use Rattle.cb_model.specs.Commands as spec
 use Rattle.cb_top.specs.declared.words.Nodes.{Nodes}

@@ -1,4 +1,150 @@
 //! The top call: from the words of the command line to the printed lines and the outcome.
 #![tactic(auto)]
 
+ghost use Rattle.std.specs.Prelude.{◌≡◌, ◌≢◌, ◌≤◌, [], ◌∷◌, length, map, string_bytes, None, IfOk, IfErr, IsOk};
+ghost use Rattle.cb_model.specs.Commands.{command_of};
+ghost use Rattle.cb_model.specs.Text.{lines_text};
+ghost use Rattle.cb_model.specs.Refusals.{refusal_line, unbuilt};
+ghost use Rattle.cb_model.specs.Outside.{Rose};
+ghost use Rattle.cb_model.specs.Top.{Prints, HasUsage, NamesNumber};
+ghost use Rattle.cb_top.specs.Words.{nodes_view};
+ghost use Rattle.cb_top.specs.Answers.{line_bytes, Decides, VerifyAnswers, Answers, BreaksOff, Finishes};
+
+use cb_host::{Files, Load, Sink, Source, write_all};
+pub use cb_model::{Outcome, Side};
+use std::alloc::{AllocError, Global};
+use words::{Command, Nodes};
+
+mod lines;
 mod words;
+
+/// The most bytes of a file.
+pub const FILE_LIMIT: u64 = 4194304;
+
+// A line with its end: one of a few, or one that was made.
+#[derive(Drop)]
+enum Line {
+    Fixed(&'static [u8]),
+    Made(Vec<u8>),
+}
+
+// What is to be written, and the outcome that goes with it.
+#[derive(Drop)]
+struct Answer {
+    line: Line,
+    outcome: Outcome,
+}
+
+/// Runs one command line: `words` are the words after the program's name. All of an answer is decided before its
+/// first byte is written, and no byte of the input is read. The prefix of a line is left where the output fails.
+pub fn chipbool<F: Files, I: Source, O: Sink>(
+    alloc: Global,
+    words: &[String],
+    files: &mut F,
+    input: &mut I,
+    out: &mut O,
+) -> Outcome
+    ensures prints { Prints (map string_bytes words.now) (F.list files.old) (O.written out.old) (O.written out.new) result }
+    ensures usage { HasUsage (map string_bytes words.now) result }
+    ensures stopped { result ≡ Outcome.Stopped → NamesNumber (command_of (map string_bytes words.now)) }
+    ensures input_unread { input.new ≡ input.old }
+    ensures fault_of_file { result ≡ Outcome.Fault Side.File → Rose (F.faults files.old) (F.faults files.new) }
+    ensures no_fault_of_input { result ≢ Outcome.Fault Side.Input }
+    ensures fault_of_output { result ≡ Outcome.Fault Side.Output → Rose (O.faults out.old) (O.faults out.new) }
+{
+    match answer_to(alloc, words, files) {
+        Ok(answer) => finish(out, answer.line.bytes(), answer.outcome),
+        Err(outcome) => outcome,
+    }
+}
+
+impl Line {
+    fn bytes(&self) -> &[u8]
+        ensures { result.now ≡ line_bytes self.now }
+    {
+        match self {
+            Line::Fixed(bytes) => bytes,
+            Line::Made(bytes) => bytes.as_slice(),
+        }
+    }
+}
+
+impl Answer {
+    // The answer of a refusal, with its number.
+    fn refusal(line: &'static [u8], number: u8) -> Answer
+        ensures line { line_bytes result.line ≡ line.entry.now }
+        ensures outcome { result.outcome ≡ Outcome.Refused number }
+    {
+        Answer {
+            line: Line::Fixed(line),
+            outcome: Outcome::Refused(number),
+        }
+    }
+
+    // The answer where what is asked for isn't built yet.
+    fn unbuilt() -> Answer
+        ensures line { line_bytes result.line ≡ lines_text (refusal_line unbuilt ∷ []) }
+        ensures outcome { result.outcome ≡ Outcome.Refused 99 }
+    {
+        Answer::refusal(lines::UNBUILT, 99)
+    }
+}
+
+// The answer to the words, or the outcome where there is none.
+fn answer_to<F: Files>(alloc: Global, words: &[String], files: &mut F) -> Result<Answer, Outcome>
+    ensures answers { IfOk result (λ a. Answers (F.list files.old) (map string_bytes words.now) (line_bytes a.line) a.outcome) }
+    ensures breaks_off { IfErr result (BreaksOff (F.faults files.old) (F.faults files.new)) }
+    ensures usage { command_of (map string_bytes words.now) ≡ None → IsOk result }
+{
+    match words::command_in(words) {
+        None => Ok(Answer::refusal(lines::USAGE, 19)),
+        Some(Command::Verify { file, name, nodes }) => verify(alloc, file, name, nodes, files),
+        Some(Command::Check { .. }) => Ok(Answer::unbuilt()),
+        Some(Command::Run { .. }) => Ok(Answer::unbuilt()),
+        Some(Command::Same { .. }) => Ok(Answer::unbuilt()),
+        Some(Command::Make { .. }) => Ok(Answer::unbuilt()),
+    }
+}
+
+// The answer of `verify`, or the outcome where there is none.
+fn verify<F: Files>(
+    alloc: Global,
+    file: &str,
+    name: &str,
+    nodes: Nodes,
+    files: &mut F,
+) -> Result<Answer, Outcome>
+    ensures answers { IfOk result (λ a. VerifyAnswers (F.list files.old) file.now name.now (nodes_view nodes) (line_bytes a.line) a.outcome) }
+    ensures breaks_off { IfErr result (BreaksOff (F.faults files.old) (F.faults files.new)) }
+{
+    let mut bytes = Vec::new(alloc);
+    match files.load(file, &mut bytes, FILE_LIMIT) {
+        Load::Done => {
+            let Ok(answer) = decide(alloc, name.as_bytes(), nodes, bytes.as_slice()) else {
+                return Err(Outcome::Memory);
+            };
+            Ok(answer)
+        }
+        Load::Long => Ok(Answer::refusal(lines::FILE_TOO_LONG, 20)),
+        Load::Failed => Err(Outcome::Fault(Side::File)),
+        Load::Memory => Err(Outcome::Memory),
+    }
+}
+
+// What `verify` says over the bytes of its file.
+fn decide(alloc: Global, name: &[u8], nodes: Nodes, bytes: &[u8]) -> Result<Answer, AllocError>
+    requires { length bytes.now ≤ 4194304 }
+    ensures { IfOk result (λ a. Decides bytes.now name.now (nodes_view nodes) (line_bytes a.line) a.outcome) }
+{
+    Err(AllocError)
+}
+
+// Writes the whole text; the outcome stands unless that fails.
+fn finish<O: Sink>(out: &mut O, text: &[u8], outcome: Outcome) -> Outcome
+    ensures { Finishes (O.written out.old) (O.written out.new) (O.faults out.old) (O.faults out.new) text.now outcome result }
+{
+    match write_all(out, text) {
+        Ok(()) => outcome,
+        Err(_) => Outcome::Fault(Side::Output),
+    }
+}

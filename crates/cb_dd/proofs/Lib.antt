@@ -1,0 +1,5 @@
+pub mod Diagrams
+pub mod Keys
+pub mod Tables
+pub mod Parts
+pub mod Children

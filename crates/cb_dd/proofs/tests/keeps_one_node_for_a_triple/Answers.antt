@@ -1,0 +1,27 @@
+use Rattle.std.proofs.Common.{arith}
+use Rattle.cb_dd.proofs.Children.{bottom_child, top_child}
+use Rattle.cb_dd.proofs.tests.keeps_one_node_for_a_triple.Goals as goal
+
+pub node-requires-clause-lo_child : goal.node-requires-clause-lo_child
+node-requires-clause-lo_child c d = bottom_child _ _ (omega arith)
+
+pub node-requires-clause-hi_child : goal.node-requires-clause-hi_child
+node-requires-clause-hi_child c d = top_child _ _ (omega arith)
+
+pub node-requires-2-clause-lo_child : goal.node-requires-2-clause-lo_child
+node-requires-2-clause-lo_child c d = bottom_child _ _ (omega arith)
+
+pub node-requires-2-clause-hi_child : goal.node-requires-2-clause-hi_child
+node-requires-2-clause-hi_child c d = top_child _ _ (omega arith)
+
+pub node-requires-3-clause-lo_child : goal.node-requires-3-clause-lo_child
+node-requires-3-clause-lo_child c d = bottom_child _ _ (omega arith)
+
+pub node-requires-3-clause-hi_child : goal.node-requires-3-clause-hi_child
+node-requires-3-clause-hi_child c d = top_child _ _ (omega arith)
+
+pub node-requires-4-clause-lo_child : goal.node-requires-4-clause-lo_child
+node-requires-4-clause-lo_child c d = top_child _ _ (omega arith)
+
+pub node-requires-4-clause-hi_child : goal.node-requires-4-clause-hi_child
+node-requires-4-clause-hi_child c d = top_child _ _ (omega arith)

@@ -1,0 +1,14 @@
+pub mod Values
+pub mod Form
+pub mod Tables
+pub mod Stays
+pub mod Determined
+pub mod OneValuation
+pub mod Depends
+pub mod Decided
+pub mod Shapes
+pub mod Fixed
+pub mod OneReading
+pub mod OpenTrees
+pub mod OneShape
+pub mod OneLine

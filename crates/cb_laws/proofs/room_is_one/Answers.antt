@@ -1,0 +1,5 @@
+use Rattle.cb_laws.proofs.OneLine.{room_is_one as law}
+use Rattle.cb_laws.proofs.room_is_one.Goals as goal
+
+pub returns : goal.returns
+returns c = law

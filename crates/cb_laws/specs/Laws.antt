@@ -1,0 +1,116 @@
+-- Laws of the definitions: each is the contract of a function of this crate.
+use Rattle.std.specs.Prelude.{◌≡◌, ℕ, ◌+◌, ◌<◌, Bool, true, not, ◌&&◌, MatchBool, List, [], ◌∷◌, ◌++◌, map, length, flat_map, ◌↔◌, Option}
+use Rattle.cb_model.specs.declared.Expr.{Expr}
+use Rattle.cb_model.specs.declared.Tree.{Tree}
+use Rattle.cb_model.specs.declared.Tree.TheVariants as tree
+use Rattle.cb_model.specs.declared.Goal.{Goal}
+use Rattle.cb_model.specs.declared.Circuit.{Circuit}
+use Rattle.cb_model.specs.Bits.{Bits, Each, bits_of, some_bits, every_bits, xor}
+use Rattle.cb_model.specs.Text.{Text}
+use Rattle.cb_model.specs.Values.{Admitted, World, expr_value, in_scope}
+use Rattle.cb_model.specs.Circuits.{Consistent, Ordered}
+use Rattle.cb_model.specs.Equations.{Item, Pair, Solvable, Refuted, Table, ReadsBelow}
+use Rattle.cb_model.specs.Program.{Program}
+use Rattle.cb_model.specs.Derivation.{Ready, Entry, Branch, Step, Query, Note, End, Plain}
+use Rattle.cb_model.specs.Answers.{leaves, IsShape, Gives, Denotes}
+use Rattle.cb_model.specs.Line.{Names, printed_terms, IsLine}
+use Rattle.cb_model.specs.Room.{room_with, BelowRoom}
+use Rattle.cb_model.specs.Tokens.{Token}
+use Rattle.cb_model.specs.Grammar.{FormClause, FormQuery, ReadsClause, ReadsQuery, ReadsAll}
+
+-- ---- Boolean pairs
+
+-- a Boolean pair
+abbrev pub Equal : Type 0
+Equal = Expr × Expr
+
+-- the item of a pair
+abbrev pub pair_item : Equal → Item
+pair_item e = Pair (tree.Leaf e.0) (tree.Leaf e.1)
+
+-- tables that satisfy the pairs at every assignment
+abbrev pub SolvesAll : List Equal → (ℕ → Table) → Type 0
+SolvesAll es x = (a : Bits) → Each (λ e. expr_value a (λ n. x n a) e.0 ≡ expr_value a (λ n. x n a) e.1) es
+
+-- Boolean pairs are solvable exactly where they have a solution in the algebra
+abbrev pub SolvableByTables : Type 0
+SolvableByTables = (w : World) (es : List Equal) → Solvable w (map pair_item es) ↔ ((x : ℕ → Table) × SolvesAll es x)
+
+-- whether the pairs hold at these bits
+abbrev pub pairs_hold : List Equal → Bits → Bits → Bool
+pairs_hold [] a b = true
+pairs_hold (e ∷ es) a b = not (xor (expr_value a b e.0) (expr_value a b e.1)) && pairs_hold es a b
+
+-- whether the pairs read only these constants and variables
+abbrev pub pairs_in_scope : ℕ → ℕ → List Equal → Bool
+pairs_in_scope c v [] = true
+pairs_in_scope c v (e ∷ es) = in_scope c v e.0 && (in_scope c v e.1 && pairs_in_scope c v es)
+
+-- whether each row of the constants has a row of the variables at which the pairs hold
+abbrev pub solvable_by_rows : ℕ → ℕ → List Equal → Bool
+solvable_by_rows c v es = every_bits c (λ r. some_bits v (λ s. pairs_hold es (bits_of r) (bits_of s)))
+
+-- Boolean pairs are solvable or refuted, as trying all rows says
+abbrev pub SolvableDecided : Type 0
+SolvableDecided = (w : World) (c v : ℕ) (es : List Equal) → pairs_in_scope c v es ≡ true →
+    MatchBool (solvable_by_rows c v es) (Solvable w (map pair_item es)) (Refuted w (map pair_item es))
+
+-- they are solvable exactly where they have a solution in the algebra free over the first c constants
+abbrev pub SolvableByTablesBelow : Type 0
+SolvableByTablesBelow = (w : World) (c v : ℕ) (es : List Equal) → pairs_in_scope c v es ≡ true →
+    Solvable w (map pair_item es) ↔ ((x : ℕ → Table) × ((n : ℕ) → ReadsBelow c (x n)) × SolvesAll es x)
+
+-- ---- the derivation
+
+-- a goal that is ready stays ready after more equations
+abbrev pub ReadyStays : Type 0
+ReadyStays = (p : Program) (es more : List Item) (g : Goal) → Ready p es g → Ready p (es ++ more) g
+
+-- a step has one outcome
+abbrev pub StepDetermined : Type 0
+StepDetermined = (p : Program) (e : Entry) (s s₁ s₂ : List Entry) (v₁ v₂ : Option Branch) → Step p e s s₁ v₁ → Step p e s s₂ v₂ → (s₁ ≡ s₂) × (v₁ ≡ v₂)
+
+-- a whole run has one list of branches that are made and printed, and one end
+abbrev pub RunDetermined : Type 0
+RunDetermined = (p : Program) (q : Query) (budget : ℕ) (ns ms : List Note) (x y : End) → Plain p q budget ns x → Plain p q budget ms y → (ns ≡ ms) × (x ≡ y)
+
+-- ---- answers
+
+-- the parametric form denotes exactly the leaf bits of the solutions
+abbrev pub FormDenotes : Type 0
+FormDenotes = (w : World) (es : List Item) (terms shape : List Tree) (a : Bits) → Admitted w a → Solvable w es → IsShape w es terms shape → (m : ℕ) →
+    Denotes (Gives w es terms shape a) m
+
+-- the shape of terms under solvable equations is one
+abbrev pub ShapeIsOne : Type 0
+ShapeIsOne = (w : World) (es : List Item) (terms s s' : List Tree) → Solvable w es → IsShape w es terms s → IsShape w es terms s' → s ≡ s'
+
+-- so the line of a branch is one
+abbrev pub LineIsOne : Type 0
+LineIsOne = (p : Program) (names : Names) (b : Branch) (x y : Text) → Solvable p.world b.items → IsLine p names b x → IsLine p names b y → x ≡ y
+
+-- and so is the bound of a branch: a number is below it exactly where it is below the formula at the leaves of the shape
+abbrev pub RoomIsOne : Type 0
+RoomIsOne = (p : Program) (names : Names) (b : Branch) (shape : List Tree) (n : ℕ) → Solvable p.world b.items →
+    IsShape p.world b.items (printed_terms names b) shape → BelowRoom p names b n ↔ (n < room_with p b (length (flat_map leaves shape)))
+
+-- a branch without a solution has the bound without leaves
+abbrev pub RoomOfNone : Type 0
+RoomOfNone = (p : Program) (names : Names) (b : Branch) (n : ℕ) → Refuted p.world b.items → BelowRoom p names b n ↔ (n < room_with p b 0)
+
+-- ---- circuits
+
+-- a circuit in order has exactly one consistent valuation for each input
+abbrev pub OneValuation : Type 0
+OneValuation = (c : Circuit) (input : List Bool) → c.nets ≡ c.inputs + length c.gates → Ordered c.inputs c.gates → length input ≡ c.inputs →
+    (v : List Bool) × Consistent c input v × ((w : List Bool) → Consistent c input w → w ≡ v)
+
+-- ---- the grammar
+
+-- a list of tokens is read as one list of clauses at most
+abbrev pub ClausesAreOne : Type 0
+ClausesAreOne = (ts : List Token) (xs ys : List FormClause) → ReadsAll ReadsClause ts xs → ReadsAll ReadsClause ts ys → xs ≡ ys
+
+-- and as one list of queries at most
+abbrev pub QueriesAreOne : Type 0
+QueriesAreOne = (ts : List Token) (xs ys : List FormQuery) → ReadsAll ReadsQuery ts xs → ReadsAll ReadsQuery ts ys → xs ≡ ys

@@ -1,0 +1,84 @@
+-- Laws of the definitions that are stated and not proved: no contract names them.
+use Rattle.std.specs.Prelude.{◌≡◌, ℕ, ◌+◌, ◌*◌, ◌≤◌, ◌⊎◌, Bool, true, List, length, Option, Some, codes, Contains, ◌↔◌}
+use Rattle.std.specs.List.{list_all}
+use Rattle.cb_model.specs.declared.Tree.{Tree}
+use Rattle.cb_model.specs.declared.Goal.{Goal}
+use Rattle.cb_model.specs.declared.Outcome.{Outcome}
+use Rattle.cb_model.specs.Bits.{Each}
+use Rattle.cb_model.specs.Text.{Text, IsPrefix}
+use Rattle.cb_model.specs.Values.{World}
+use Rattle.cb_model.specs.Circuits.{Consistent, Module, Flat, circuit_of, flat_named, Agrees, BySpec}
+use Rattle.cb_model.specs.Equations.{Item, Solvable, Refuted, Substitution, ReadsOnly, Solves, item_in_scope}
+use Rattle.cb_model.specs.Program.{Program}
+use Rattle.cb_model.specs.Derivation.{Ready}
+use Rattle.cb_model.specs.Answers.{IsShape}
+use Rattle.cb_model.specs.Tokens.{Token, Fault, Lexes, line_at}
+use Rattle.cb_model.specs.Grammar.{FormClause, FormQuery, ReadsClause, ReadsQuery, IsReading, Whole}
+use Rattle.cb_model.specs.Written.{AreClauses, AreQueries}
+use Rattle.cb_model.specs.Facts.{FactRefusal, Circuits, FactsRead, no_circuits, Spec}
+use Rattle.cb_model.specs.Adder.{adder_text}
+use Rattle.cb_model.specs.Output.{Loaded, IsLoaded, module_named, spec_named, Output, OutputBegins}
+
+-- each item has only constants below c and variables below v
+abbrev pub InScope : ℕ → ℕ → List Item → Type 0
+InScope c v es = list_all (item_in_scope c v) es ≡ true
+
+-- equations of all three sorts and circuit items are solvable exactly where they have a solution in the algebra over the c constants
+abbrev pub SolvableInAlgebra : Type 0
+SolvableInAlgebra = (w : World) (c v : ℕ) (es : List Item) → InScope c v es → Solvable w es ↔ ((s : Substitution) × (ReadsOnly c s × Solves w es s))
+
+-- they are solvable or refuted
+abbrev pub Decided : Type 0
+Decided = (w : World) (c v : ℕ) (es : List Item) → InScope c v es → Solvable w es ⊎ Refuted w es
+
+-- a goal is ready or not, where the equations are solvable
+abbrev pub ReadyDecided : Type 0
+ReadyDecided = (p : Program) (v : ℕ) (es : List Item) (g : Goal) → InScope p.constants v es → Solvable p.world es → Ready p es g ⊎ (Ready p es g → ⊥)
+
+-- solvable equations have a shape for all terms
+abbrev pub HasShape : Type 0
+HasShape = (w : World) (c v : ℕ) (es : List Item) (terms : List Tree) → InScope c v es → Solvable w es → (shape : List Tree) × IsShape w es terms shape
+
+-- each token's line is that of its first byte
+abbrev pub TokenLines : Type 0
+TokenLines = (source : Text) (ts : List Token) (f : Option Fault) → Lexes 0 1 source ts f → Each (λ t. t.line ≡ line_at source t.start) ts
+
+-- what the grammar reads is in its form, and no longer than the text
+abbrev pub ReadingIsWritten : Type 0
+ReadingIsWritten = (source : Text) →
+    ((cs : List FormClause) → IsReading ReadsClause source (Whole cs) → AreClauses (length source) cs) ×
+    ((qs : List FormQuery) → IsReading ReadsQuery source (Whole qs) → AreQueries (length source) qs)
+
+-- the flattened circuit of an accepted module has exactly one consistent valuation for each input, whatever the order of its instances
+abbrev pub FlatHasOne : Type 0
+FlatHasOne = (cs : List FormClause) (r : Option (FactRefusal × ℕ)) (c : Circuits) (f : Flat) (input : List Bool) →
+    FactsRead no_circuits cs r c → Contains c.flats f → length input ≡ f.inputs →
+    (v : List Bool) × (Consistent (circuit_of f) input v × ((w : List Bool) → Consistent (circuit_of f) input w → w ≡ v))
+
+-- the generated text is accepted, and its adder has these sizes and is right
+pub record AdderHolds (n : ℕ) : Type 0 where
+  pub l : Loaded
+  pub m : Module
+  pub s : Spec
+  pub loaded : IsLoaded (adder_text n) l
+  pub has_module : module_named l.circuits (codes "adder") ≡ Some m
+  pub has_spec : spec_named l.circuits (codes "adder") ≡ Some s
+  pub inputs : length m.inputs ≡ 2 * n + 1
+  pub outputs : length m.outputs ≡ n + 1
+  pub spec_inputs : length s.inputs ≡ length m.inputs
+  pub spec_exprs : length s.exprs ≡ length m.outputs
+  pub gates : length (flat_named l.circuits.flats (codes "adder")).gates ≡ 5 * n
+  pub agrees : Agrees (circuit_of (flat_named l.circuits.flats (codes "adder"))) (BySpec s.exprs)
+
+-- the same of each number that `make` takes
+abbrev pub AddersHold : Type 0
+AddersHold = (n : ℕ) → 1 ≤ n → n ≤ 64 → AdderHolds n
+
+-- words, file and input have an output
+abbrev pub OutputExists : Type 0
+OutputExists = (words : List Text) (file input : Text) → (text : Text) × (answer : Outcome) × Output words file input text answer
+
+-- what was written where a run broke off begins an output
+abbrev pub BeginningExtends : Type 0
+BeginningExtends = (words : List Text) (file input text : Text) → OutputBegins words file input text →
+    (whole : Text) × (answer : Outcome) × (Output words file input whole answer × IsPrefix text whole)

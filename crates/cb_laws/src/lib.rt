@@ -1,0 +1,75 @@
+//! Laws of the definitions: each is the contract of a function that does nothing.
+#![tactic(auto)]
+
+ghost use Rattle.cb_laws.specs.Laws.{SolvableByTables, SolvableDecided, SolvableByTablesBelow, ReadyStays, StepDetermined, RunDetermined, FormDenotes, OneValuation, ShapeIsOne, LineIsOne, RoomIsOne, RoomOfNone, ClausesAreOne, QueriesAreOne};
+
+/// Boolean equations are solvable exactly where they have a solution in the algebra (Boole).
+pub fn solvable_by_tables()
+    ensures { SolvableByTables }
+{}
+
+/// Boolean equations are solvable or refuted, and trying all rows of bits says which.
+pub fn solvable_decided()
+    ensures { SolvableDecided }
+{}
+
+/// Boolean equations over some constants are solvable exactly where they have a solution in the algebra free over
+/// these constants.
+pub fn solvable_by_tables_below()
+    ensures { SolvableByTablesBelow }
+{}
+
+/// A goal that is ready stays ready after more equations.
+pub fn ready_stays()
+    ensures { ReadyStays }
+{}
+
+/// A step of the derivation has one outcome.
+pub fn step_determined()
+    ensures { StepDetermined }
+{}
+
+/// A whole run of a query has one list of branches and one end.
+pub fn run_determined()
+    ensures { RunDetermined }
+{}
+
+/// The parametric form of an answer denotes exactly the solutions.
+pub fn form_denotes()
+    ensures { FormDenotes }
+{}
+
+/// A circuit whose gates read only earlier nets has exactly one valuation for each input.
+pub fn one_valuation()
+    ensures { OneValuation }
+{}
+
+/// A list of tokens is read as one list of clauses at most.
+pub fn clauses_are_one()
+    ensures { ClausesAreOne }
+{}
+
+/// A list of tokens is read as one list of queries at most.
+pub fn queries_are_one()
+    ensures { QueriesAreOne }
+{}
+
+/// The shape of terms under solvable equations is one.
+pub fn shape_is_one()
+    ensures { ShapeIsOne }
+{}
+
+/// The line of a branch whose equations are solvable is one.
+pub fn line_is_one()
+    ensures { LineIsOne }
+{}
+
+/// A number is below the bound of a solvable branch exactly where it is below the formula at the leaves of its shape.
+pub fn room_is_one()
+    ensures { RoomIsOne }
+{}
+
+/// The bound of a branch without a solution is the formula without leaves.
+pub fn room_of_none()
+    ensures { RoomOfNone }
+{}

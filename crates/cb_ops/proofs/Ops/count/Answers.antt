@@ -1,0 +1,6 @@
+use Rattle.std.proofs.Common.{subst}
+use Rattle.cb_dd.specs.Diagram.{IsCanonical}
+use Rattle.cb_ops.proofs.Ops.count.Goals as goal
+
+pub returns-clause-canonical : goal.returns-clause-canonical
+returns-clause-canonical c = subst (λ s. IsCanonical s.triples) c.self.view_is c.count.ensures.canonical

@@ -1,0 +1,10 @@
+use Rattle.std.proofs.Common.{◌≡◌, sym, subst}
+use Rattle.cb_dd.specs.Diagram.{IsDiagram}
+use Rattle.cb_ops.specs.Call.{IsMemo}
+use Rattle.cb_ops.proofs.Memo.{IsMemo-append}
+use Rattle.cb_ops.proofs.Ops.node.Goals as goal
+
+pub invariant_of-self : goal.invariant_of-self
+invariant_of-self c =
+    let e = c.node.ensures.extends in
+    subst (IsMemo c.self.inside.memo c.self.inside.bound) (sym e.triples) (IsMemo-append c.self.inside.memo c.self.inside.bound c.self.inside.dd.triples e.more (subst IsDiagram e.triples c.node.ensures.diagram) c.self.invariant)

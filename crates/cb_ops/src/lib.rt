@@ -1,0 +1,430 @@
+//! Operations on shared decision diagrams, with a memo of answers (Brace, Rudell and Bryant 1990).
+#![tactic(auto)]
+
+ghost use Rattle.std.specs.Prelude.{◌≡◌, ◌≢◌, ◌⊎◌, ℕ, Bool, not, ◌&&◌, ◌||◌, ◌+◌, ◌-◌, ◌*◌, ◌<◌, ◌≤◌, ◌^◌, ◌↔◌, [], ◌∷◌, ◌++◌, List, length, take, Some, None, Ok, Err, IfOk, OnOk, OnErr, IfSome, IfNone, IsTrue, true, false, if◌then◌else◌};
+ghost use Rattle.cb_model.specs.Bits.{Bits, xor};
+ghost use Rattle.cb_dd.specs.Diagram.{Store, IsDiagram, IsCanonical, IsNode, IsChild, IsFull, HasParts, Holds, function_of, level_of, fulls_after, parts_of, triple};
+ghost use Rattle.std.specs.List.Sorted.{IsStrictlyIncreasing};
+ghost use Rattle.cb_ops.specs.Ops.{Grows, StandsFor, IsIte, IsCofactor, Room, HasCause, DependsOn, IsLeastTrue, IsLeastSide};
+ghost use Rattle.cb_ops.specs.declared.Call.{Call};
+
+use cb_dd::{Dd, DdMark, Node, Stop};
+use indexmap::IndexMap;
+use std::alloc::{AllocError, Global};
+use std::marker::Model;
+
+/// How many answers the memo holds at least, before it is cleared to make room; it holds as many as there are
+/// nodes, where there are more. With this number a multiplier of 10 bits took half the time that a memo took which
+/// grew without bound, and a third of its memory.
+const MEMO_ROOM: usize = 65_536;
+
+// A call of `ite`, by the numbers of its arguments.
+#[derive(Clone, Copy, PartialEq, Eq, Hash, Debug)]
+struct Call {
+    f: u32,
+    g: u32,
+    h: u32,
+}
+
+/// A store of nodes, with a memo of the answers of operations on them.
+///
+/// After a stop all older nodes keep their functions, and nodes that were made on the way may stay until a cut.
+#[derive(Drop)]
+pub struct Ops {
+    dd: Dd,
+    memo: IndexMap<Call, u32>,
+    // Above the numbers of all nodes that the memo names.
+    bound: usize,
+}
+
+impl Model for Ops {
+    ghost use Rattle.cb_dd.specs.Diagram.{Store};
+
+    ghost Value = { Store };
+
+    ghost use Rattle.cb_ops.specs.Call.{IsMemo};
+
+    ghost view = { λ o. o.dd };
+
+    ghost invariant = { λ o. IsMemo o.memo o.bound o.dd.triples };
+}
+
+impl Ops {
+    /// A store with no nodes but the constants, that will hold at most `budget` others.
+    pub fn new(alloc: Global, budget: usize) -> Result<Ops, AllocError>
+        ensures empty { IfOk result (λ o. o ≡ record { budget = budget; triples = []; fulls = 0 }) }
+    {
+        let dd = Dd::new(alloc, budget)?;
+        let _count = dd.count();
+        let memo = IndexMap::with_capacity(alloc, MEMO_ROOM)?;
+        Ok(Ops { dd, memo, bound: 2 })
+    }
+
+    /// How many nodes there are, the constants left out.
+    pub fn count(&self) -> usize
+        ensures count { result ≡ length self.now.triples }
+        ensures within { result ≤ self.now.budget }
+        ensures small { result < 2 ^ 63 }
+        ensures diagram { IsDiagram self.now.triples }
+        ensures canonical { IsCanonical self.now.triples }
+        ensures unbounded { self.now.budget ≡ 2 ^ 64 - 1 → self.now.fulls ≡ 0 }
+    {
+        self.dd.count()
+    }
+
+    /// The level of a node, its child where the bit at that level is 0, and its child where it is 1. The constants
+    /// have no parts.
+    pub fn parts(&self, n: Node) -> Option<(u32, Node, Node)>
+        requires { IsNode self.now.triples n.0 }
+        ensures parts { result ≡ parts_of self.now.triples n.0 }
+        ensures inner { IfSome result (λ p. HasParts self.now.triples n.0 p.0 p.1.0 p.2.0) }
+        ensures constant { IfNone result (level_of self.now.triples n.0 ≡ 2 ^ 32 × ((n.0 ≡ 0) ⊎ (n.0 ≡ 1))) }
+        ensures canonical { IsCanonical self.now.triples }
+    {
+        self.dd.parts(n)
+    }
+
+    /// The node that is `lo` where the bit at the level is 0, and `hi` where it is 1: `lo` itself where the two are
+    /// equal, else the one node with these parts. It is made where it isn't there yet.
+    ///
+    /// The store stays as it was after a refusal, but for its count of refusals for nodes.
+    pub fn node(&mut self, level: u32, lo: Node, hi: Node) -> Result<Node, Stop>
+        requires lo_child { IsChild self.old.triples level lo.0 }
+        requires hi_child { IsChild self.old.triples level hi.0 }
+        ensures same { lo ≡ hi → (result ≡ Ok lo) × (self.new ≡ self.old) }
+        ensures held { Holds self.old.triples (triple level lo.0 hi.0) → self.new.triples ≡ self.old.triples }
+        ensures made { IfOk result (λ n. lo ≢ hi → parts_of self.new.triples n.0 ≡ Some (level, lo, hi)) }
+        ensures function { IfOk result (λ n. (a : Bits) → function_of self.new.triples n.0 a
+            ≡ (if a level then function_of self.old.triples hi.0 a
+            else function_of self.old.triples lo.0 a)) }
+        ensures is_node { IfOk result (λ n. IsNode self.new.triples n.0) }
+        ensures above { IfOk result (λ n. level ≤ level_of self.new.triples n.0) }
+        ensures grows { Grows self.old self.new }
+        ensures one { length self.new.triples ≤ length self.old.triples + 1 }
+        ensures refused { OnErr result (self.new.triples ≡ self.old.triples) }
+
+        // `Nodes` comes exactly where the sides differ, the triple is new and the store is full; want of memory
+        // may come in its place.
+        ensures nodes { result ≡ Err Stop.Nodes → IsFull self.old level lo.0 hi.0 }
+        ensures full { IsFull self.old level lo.0 hi.0 → (result ≡ Err Stop.Nodes) ⊎ (result ≡ Err Stop.Memory) }
+        ensures unbounded { self.old.budget ≡ 2 ^ 64 - 1 → result ≢ Err Stop.Nodes }
+        ensures fulls { self.new.fulls ≡ fulls_after self.old.fulls result }
+        ensures diagram { IsDiagram self.new.triples }
+        ensures canonical { IsCanonical self.new.triples }
+    {
+        self.dd.node(level, lo, hi)
+    }
+
+    /// The moment, to which a later cut can return.
+    pub fn mark(&self) -> DdMark
+        ensures { result ≡ length self.now.triples }
+    {
+        self.dd.mark()
+    }
+
+    /// Takes away all nodes made since the mark. The count of refusals for nodes stays.
+    pub fn cut(&mut self, to: DdMark)
+        requires { to ≤ length self.old.triples }
+        ensures triples { self.new.triples ≡ take to self.old.triples }
+        ensures budget { self.new.budget ≡ self.old.budget }
+        ensures fulls { self.new.fulls ≡ self.old.fulls }
+        ensures diagram { IsDiagram self.new.triples }
+        ensures canonical { IsCanonical self.new.triples }
+    {
+        let _count = self.count();
+        if self.bound <= to.count() + 2 {
+            self.dd.cut(to);
+            return;
+        }
+        self.memo.clear();
+        self.bound = 2;
+        self.dd.cut(to);
+    }
+
+    /// The node that is g where f is 1, and h where f is 0.
+    ///
+    /// Operator `ite` of Brace, Rudell and Bryant (1990). It recurses over the levels on which the three depend.
+    pub fn ite(&mut self, f: Node, g: Node, h: Node) -> Result<Node, Stop>
+        requires f { IsNode self.old.triples f.0 }
+        requires g { IsNode self.old.triples g.0 }
+        requires h { IsNode self.old.triples h.0 }
+        ensures is_node { IfOk result (λ n. IsNode self.new.triples n.0) }
+        ensures function { IfOk result (λ n. IsIte self.old.triples self.new.triples f.0 g.0 h.0 n.0) }
+        ensures grows { Grows self.old self.new }
+        ensures room { Room (f.0 ∷ g.0 ∷ h.0 ∷ []) 1 self.old self.new }
+        ensures full { result ≡ Err Stop.Nodes → length self.new.triples ≡ self.new.budget }
+        ensures nodes { result ≡ Err Stop.Nodes → HasCause (f.0 ∷ g.0 ∷ h.0 ∷ []) 1 self.old self.new }
+        ensures unbounded { self.old.budget ≡ 2 ^ 64 - 1 → result ≢ Err Stop.Nodes }
+        ensures fulls { self.new.fulls ≡ fulls_after self.old.fulls result }
+        ensures diagram { IsDiagram self.new.triples }
+    {
+        let _count = self.count();
+        if let Some(r) = self.known(f, g, h) {
+            return Ok(r);
+        }
+        let level = self.level(f).min(self.level(g)).min(self.level(h));
+        let (f0, f1) = self.cofactors(f, level);
+        let (g0, g1) = self.cofactors(g, level);
+        let (h0, h1) = self.cofactors(h, level);
+        let lo = self.ite(f0, g0, h0)?;
+        let hi = self.ite(f1, g1, h1)?;
+        let r = self.node(level as u32, lo, hi)?;
+        self.note(f, g, h, r);
+        Ok(r)
+    }
+
+    /// The node that is 1 where f is 0.
+    pub fn not(&mut self, f: Node) -> Result<Node, Stop>
+        requires { IsNode self.old.triples f.0 }
+        ensures is_node { IfOk result (λ n. IsNode self.new.triples n.0) }
+        ensures function { IfOk result (λ n. StandsFor self.new.triples n.0 (λ a.
+            not (function_of self.old.triples f.0 a))) }
+        ensures grows { Grows self.old self.new }
+        ensures room { Room (f.0 ∷ []) 1 self.old self.new }
+        ensures full { result ≡ Err Stop.Nodes → length self.new.triples ≡ self.new.budget }
+        ensures nodes { result ≡ Err Stop.Nodes → HasCause (f.0 ∷ []) 1 self.old self.new }
+        ensures unbounded { self.old.budget ≡ 2 ^ 64 - 1 → result ≢ Err Stop.Nodes }
+        ensures fulls { self.new.fulls ≡ fulls_after self.old.fulls result }
+        ensures diagram { IsDiagram self.new.triples }
+    {
+        self.ite(f, Node::ZERO, Node::ONE)
+    }
+
+    /// The node that is 1 where both are.
+    pub fn and(&mut self, f: Node, g: Node) -> Result<Node, Stop>
+        requires f { IsNode self.old.triples f.0 }
+        requires g { IsNode self.old.triples g.0 }
+        ensures is_node { IfOk result (λ n. IsNode self.new.triples n.0) }
+        ensures function { IfOk result (λ n. StandsFor self.new.triples n.0 (λ a.
+            function_of self.old.triples f.0 a && function_of self.old.triples g.0 a)) }
+        ensures grows { Grows self.old self.new }
+        ensures room { Room (f.0 ∷ g.0 ∷ []) 1 self.old self.new }
+        ensures full { result ≡ Err Stop.Nodes → length self.new.triples ≡ self.new.budget }
+        ensures nodes { result ≡ Err Stop.Nodes → HasCause (f.0 ∷ g.0 ∷ []) 1 self.old self.new }
+        ensures unbounded { self.old.budget ≡ 2 ^ 64 - 1 → result ≢ Err Stop.Nodes }
+        ensures fulls { self.new.fulls ≡ fulls_after self.old.fulls result }
+        ensures diagram { IsDiagram self.new.triples }
+    {
+        if g.0 < f.0 {
+            return self.ite(g, f, Node::ZERO);
+        }
+        self.ite(f, g, Node::ZERO)
+    }
+
+    /// The node that is 1 where one at least is.
+    pub fn or(&mut self, f: Node, g: Node) -> Result<Node, Stop>
+        requires f { IsNode self.old.triples f.0 }
+        requires g { IsNode self.old.triples g.0 }
+        ensures is_node { IfOk result (λ n. IsNode self.new.triples n.0) }
+        ensures function { IfOk result (λ n. StandsFor self.new.triples n.0 (λ a.
+            function_of self.old.triples f.0 a || function_of self.old.triples g.0 a)) }
+        ensures grows { Grows self.old self.new }
+        ensures room { Room (f.0 ∷ g.0 ∷ []) 1 self.old self.new }
+        ensures full { result ≡ Err Stop.Nodes → length self.new.triples ≡ self.new.budget }
+        ensures nodes { result ≡ Err Stop.Nodes → HasCause (f.0 ∷ g.0 ∷ []) 1 self.old self.new }
+        ensures unbounded { self.old.budget ≡ 2 ^ 64 - 1 → result ≢ Err Stop.Nodes }
+        ensures fulls { self.new.fulls ≡ fulls_after self.old.fulls result }
+        ensures diagram { IsDiagram self.new.triples }
+    {
+        if g.0 < f.0 {
+            return self.ite(g, Node::ONE, f);
+        }
+        self.ite(f, Node::ONE, g)
+    }
+
+    /// The node that is 1 where exactly one is.
+    pub fn xor(&mut self, f: Node, g: Node) -> Result<Node, Stop>
+        requires f { IsNode self.old.triples f.0 }
+        requires g { IsNode self.old.triples g.0 }
+        ensures is_node { IfOk result (λ n. IsNode self.new.triples n.0) }
+        ensures function { IfOk result (λ n. StandsFor self.new.triples n.0 (λ a.
+            xor (function_of self.old.triples f.0 a) (function_of self.old.triples g.0 a))) }
+        ensures grows { Grows self.old self.new }
+        ensures room { Room (f.0 ∷ g.0 ∷ []) 2 self.old self.new }
+        ensures full { result ≡ Err Stop.Nodes → length self.new.triples ≡ self.new.budget }
+        ensures nodes { result ≡ Err Stop.Nodes → HasCause (f.0 ∷ g.0 ∷ []) 2 self.old self.new }
+        ensures unbounded { self.old.budget ≡ 2 ^ 64 - 1 → result ≢ Err Stop.Nodes }
+        ensures fulls { self.new.fulls ≡ fulls_after self.old.fulls result }
+        ensures diagram { IsDiagram self.new.triples }
+    {
+        if g.0 < f.0 {
+            return self.differ(g, f);
+        }
+        self.differ(f, g)
+    }
+
+    // The node that is 1 where exactly one is: the second, negated where the first is 1.
+    fn differ(&mut self, f: Node, g: Node) -> Result<Node, Stop>
+        requires f { IsNode self.old.triples f.0 }
+        requires g { IsNode self.old.triples g.0 }
+        ensures is_node { IfOk result (λ n. IsNode self.new.triples n.0) }
+        ensures function { IfOk result (λ n. StandsFor self.new.triples n.0 (λ a.
+            xor (function_of self.old.triples f.0 a) (function_of self.old.triples g.0 a))) }
+        ensures grows { Grows self.old self.new }
+        ensures room { Room (f.0 ∷ g.0 ∷ []) 2 self.old self.new }
+        ensures full { result ≡ Err Stop.Nodes → length self.new.triples ≡ self.new.budget }
+        ensures nodes { result ≡ Err Stop.Nodes → HasCause (f.0 ∷ g.0 ∷ []) 2 self.old self.new }
+        ensures unbounded { self.old.budget ≡ 2 ^ 64 - 1 → result ≢ Err Stop.Nodes }
+        ensures fulls { self.new.fulls ≡ fulls_after self.old.fulls result }
+        ensures diagram { IsDiagram self.new.triples }
+    {
+        let other = self.not(g)?;
+        let n = self.ite(f, other, g)?;
+        Ok(n)
+    }
+
+    /// Whether the node is 1 at some assignment; if so, `into` becomes the least that makes it so, its i-th bit for
+    /// the level at place i: 0 before 1, and the first level weighs most. Else `into` is kept.
+    pub fn least_true(&self, f: Node, levels: &[u32], into: &mut [bool]) -> bool
+        requires node { IsNode self.now.triples f.0 }
+        requires rise { IsStrictlyIncreasing levels.now }
+        requires support { DependsOn self.now.triples f.0 levels.now }
+        requires as_many { length into.old ≡ length levels.now }
+        ensures some { IsTrue result ↔ (f.0 ≢ 0) }
+        ensures none { f.0 ≡ 0 → into.new ≡ into.old }
+        ensures least { f.0 ≢ 0 → IsLeastTrue self.now.triples f.0 levels.now into.new }
+    {
+        let _count = self.count();
+        if f.0 == 0 {
+            return false;
+        }
+        let mut n = f;
+        for (i, level) in levels.iter().enumerate() {
+            let (bit, next) = self.least_side(n, *level);
+            into[i] = bit;
+            n = next;
+        }
+        true
+    }
+
+    // The bit that the least assignment has at the first level on which the node may depend, and the node at that
+    // bit.
+    fn least_side(&self, n: Node, level: u32) -> (bool, Node)
+        requires node { IsNode self.now.triples n.0 }
+        requires some { n.0 ≢ 0 }
+        requires above { level ≤ level_of self.now.triples n.0 }
+        ensures side { IsLeastSide self.now.triples n.0 level result.0 result.1.0 }
+    {
+        let _count = self.count();
+        match self.dd.parts(n) {
+            Some((at, lo, hi)) if at == level => {
+                if lo.0 == 0 {
+                    return (true, hi);
+                }
+                (false, lo)
+            }
+            _ => (false, n),
+        }
+    }
+
+    // The level of a node, above all levels for the constants.
+    fn level(&self, n: Node) -> u64
+        requires { IsNode self.now.triples n.0 }
+        ensures level { result ≡ level_of self.now.triples n.0 }
+        ensures inner { 2 ≤ n.0 → result < 2 ^ 32 }
+    {
+        match self.dd.parts(n) {
+            Some((level, _, _)) => level as u64,
+            None => 1 << 32,
+        }
+    }
+
+    // A node's functions with the two bits at a level that is at most the node's.
+    fn cofactors(&self, n: Node, level: u64) -> (Node, Node)
+        requires node { IsNode self.now.triples n.0 }
+        requires level { level ≤ level_of self.now.triples n.0 }
+        requires small { level < 2 ^ 32 }
+        ensures lo { IsCofactor self.now.triples n.0 level false result.0.0 }
+        ensures hi { IsCofactor self.now.triples n.0 level true result.1.0 }
+    {
+        let _count = self.count();
+        match self.dd.parts(n) {
+            Some((at, lo, hi)) if at as u64 == level => (lo, hi),
+            _ => (n, n),
+        }
+    }
+
+    // The answer of a call that needs no work: the choice or the two sides are plain, or it was made before.
+    fn known(&self, f: Node, g: Node, h: Node) -> Option<Node>
+        requires f { IsNode self.now.triples f.0 }
+        requires g { IsNode self.now.triples g.0 }
+        requires h { IsNode self.now.triples h.0 }
+        ensures node { IfSome result (λ r. IsNode self.now.triples r.0) }
+        ensures ite { IfSome result (λ r. IsIte self.now.triples self.now.triples f.0 g.0 h.0 r.0) }
+        ensures inner { IfNone result (2 ≤ f.0) }
+    {
+        if f.0 == 1 {
+            return Some(g);
+        }
+        if f.0 == 0 {
+            return Some(h);
+        }
+        if g.0 == h.0 {
+            return Some(g);
+        }
+        if g.0 == 1 && h.0 == 0 {
+            return Some(f);
+        }
+        self.recall(f, g, h)
+    }
+
+    // The answer of a call that was made before.
+    fn recall(&self, f: Node, g: Node, h: Node) -> Option<Node>
+        ensures node { IfSome result (λ r. IsNode self.now.triples r.0) }
+        ensures ite { IfSome result (λ r. IsIte self.now.triples self.now.triples f.0 g.0 h.0 r.0) }
+    {
+        let call = call_of(f, g, h)?;
+        match self.memo.get(&call) {
+            Some(r) => Some(Node(*r as usize)),
+            None => None,
+        }
+    }
+
+    // Keeps the answer of a call, where it fits.
+    fn note(&mut self, f: Node, g: Node, h: Node, r: Node)
+        requires f { IsNode self.old.triples f.0 }
+        requires g { IsNode self.old.triples g.0 }
+        requires h { IsNode self.old.triples h.0 }
+        requires r { IsNode self.old.triples r.0 }
+        requires ite { IsIte self.old.triples self.old.triples f.0 g.0 h.0 r.0 }
+        ensures same { self.new ≡ self.old }
+    {
+        self.make_room();
+        let Some(call) = call_of(f, g, h) else {
+            return;
+        };
+        let Ok(answer) = u32::try_from(r.0) else {
+            return;
+        };
+        let largest = f.0.max(g.0).max(h.0).max(r.0);
+        self.bound = self.bound.max(largest + 1);
+        let _ = self.memo.insert(call, answer);
+    }
+
+    // Clears the memo where it is full.
+    fn make_room(&mut self)
+        ensures same { self.new ≡ self.old }
+    {
+        let room = MEMO_ROOM.max(self.dd.count());
+        if room <= self.memo.len() {
+            self.memo.clear();
+            self.bound = 2;
+        }
+    }
+}
+
+// The memo's key for a call, where the numbers fit.
+fn call_of(f: Node, g: Node, h: Node) -> Option<Call>
+    ensures { IfSome result (λ c. c ≡ record { f = f.0; g = g.0; h = h.0 }) }
+{
+    let Ok(f) = u32::try_from(f.0) else {
+        return None;
+    };
+    let Ok(g) = u32::try_from(g.0) else {
+        return None;
+    };
+    let Ok(h) = u32::try_from(h.0) else {
+        return None;
+    };
+    Some(Call { f, g, h })
+}

@@ -1,0 +1,16 @@
+use Rattle.cb_rows.proofs.RoomRow as rows
+use Rattle.cb_rows.proofs.OnlyNo.{only_no}
+use Rattle.cb_rows.proofs.room_examples.Goals as goal
+
+pub returns : goal.returns
+returns c = record {
+  dropped_bound = rows.dropped_bound;
+  dropped_allows_none = rows.dropped_allows_none;
+  first_bound = rows.first_bound;
+  may_stop = rows.says;
+  only_no = only_no;
+  times_bound = rows.times_bound;
+  name_bound = rows.name_bound;
+  circuit_size = rows.bare_size;
+  verify_bound = rows.verify_bound;
+}

@@ -1,0 +1,29 @@
+-- Worked numbers of the two bounds on nodes.
+use Rattle.std.specs.Prelude.{◌≡◌, ◌+◌, Bool, true, false, List, [], ◌∷◌, codes, None, sum_by, get_or}
+use Rattle.cb_model.specs.declared.Expr.TheVariants as expr
+use Rattle.cb_model.specs.declared.Tree.TheVariants as tree
+use Rattle.cb_model.specs.Text.{Text}
+use Rattle.cb_model.specs.Commands.{Only}
+use Rattle.cb_model.specs.Program.{no_program}
+use Rattle.cb_model.specs.Derivation.{first_branch, resolved, with_circuit}
+use Rattle.cb_model.specs.Room.{BelowRoom, room, room_with, room_v, branch_size, expr_size, flat_pins, instance_pins}
+use Rattle.cb_model.specs.Output.{QuerySays, room_of}
+use Rattle.cb_rows.specs.RoomRow.{p, q, names, dropped, times, name_program, name_behind, bare, bare_program, bare_query, circuits, A, B}
+
+pub record RoomExamples : Type 0 where
+  -- `~X = X`: the branch that is dropped has no printed leaves, and with more nodes than its bound it allows no stop
+  pub dropped_bound : room_with p dropped 0 ≡ 102400
+  pub dropped_allows_none : BelowRoom p names dropped 16777216 → ⊥
+  -- its first branch has one printed leaf, and one node less than its bound allows a stop
+  pub first_bound : room_with p (first_branch q) 1 ≡ 1179648
+  pub may_stop : QuerySays p q names 10 (Only 1179647) (codes "stopped: nodes" ∷ []) true
+  -- with 16777216 nodes only the line `no` may come
+  pub only_no : (lines : List Text) (stop : Bool) → QuerySays p q names 10 (Only 16777216) lines stop → (lines ≡ codes "no" ∷ []) × (stop ≡ false)
+  -- `X * a = a`
+  pub times_bound : room_with (no_program 1) (first_branch times) 1 ≡ 16777216
+  -- `p, X = 1` over `p.`, where X is a term: the item `p = p` has two leaves
+  pub name_bound : room_with name_program (resolved name_behind 0 [] (record { pred = 0; sorts = []; head = []; body = [] })) 0 ≡ 12800
+  -- `circuit(m, [1], [])` over `module(m, [A], [], []).`: the item counts its name, its trees and its own variable
+  pub circuit_size : branch_size bare_program (with_circuit (record (first_branch bare_query) { goals = [] }) bare (tree.Bus (expr.One ∷ []) None) (tree.Bus [] None)) ≡ 5
+  -- `verify half_adder`, with its specification `[A # B, A * B]`
+  pub verify_bound : room_of circuits (codes "half_adder" ∷ []) (sum_by expr_size (expr.Xor (A ∷ B ∷ []) ∷ expr.And (A ∷ B ∷ []) ∷ [])) ≡ 24576

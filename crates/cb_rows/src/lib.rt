@@ -1,0 +1,39 @@
+//! Worked examples of the definitions: each is part of the contract of a function that does nothing.
+#![tactic(auto)]
+
+ghost use Rattle.cb_rows.specs.CircuitExamples.{CircuitExamples};
+ghost use Rattle.cb_rows.specs.FileExamples.{FileExamples};
+ghost use Rattle.cb_rows.specs.OutputExamples.{OutputExamples};
+ghost use Rattle.cb_rows.specs.QueryExamples.{QueryExamples};
+ghost use Rattle.cb_rows.specs.RoomExamples.{RoomExamples};
+ghost use Rattle.cb_rows.specs.TextExamples.{TextExamples};
+
+/// Worked circuits: gates, flattening, comparisons and the generated adder.
+pub fn circuit_examples()
+    ensures { CircuitExamples }
+{}
+
+/// Worked files: words, directives, sorts, facts and their refusals.
+pub fn file_examples()
+    ensures { FileExamples }
+{}
+
+/// Whole runs of the program, from its words and the bytes that it reads to its text and its outcome.
+pub fn output_examples()
+    ensures { OutputExamples }
+{}
+
+/// Worked queries with the lines that they print.
+pub fn query_examples()
+    ensures { QueryExamples }
+{}
+
+/// Worked numbers of the bounds on nodes, and what they allow.
+pub fn room_examples()
+    ensures { RoomExamples }
+{}
+
+/// Worked texts: tokens, clauses, nestings and faults.
+pub fn text_examples()
+    ensures { TextExamples }
+{}
