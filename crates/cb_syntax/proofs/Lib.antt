@@ -5,3 +5,4 @@ pub mod Fore
 pub mod Stack
 pub mod Run
 pub mod Whole
+pub mod Moves

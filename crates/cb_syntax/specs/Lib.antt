@@ -1,3 +1,4 @@
 pub mod TokenList
 pub mod Machine
 pub mod Answers
+pub mod Steps
