@@ -6,3 +6,4 @@ pub mod Stack
 pub mod Run
 pub mod Whole
 pub mod Moves
+pub mod Folds

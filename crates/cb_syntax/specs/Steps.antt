@@ -4,7 +4,7 @@ use Rattle.cb_model.specs.declared.Kind.{Kind}
 use Rattle.cb_model.specs.declared.Kind.TheVariants as kind
 use Rattle.cb_model.specs.Tokens.{Token}
 use Rattle.cb_model.specs.Grammar as sym
-use Rattle.cb_model.specs.Grammar.{Op, Plus, Hash, Star, op_kind, tighter, Form, Forms, one, depth, nest, IsAtom, Reads, FormGoal, ReadsGoal, ReadsGoals, FormClause, ReadsClause}
+use Rattle.cb_model.specs.Grammar.{Op, Plus, Hash, Star, op_kind, tighter, Form, Forms, And, Xor, Or, one, depth, nest, IsAtom, Reads, FormGoal, ReadsGoal, ReadsGoals, FormClause, ReadsClause}
 use Rattle.cb_lex.specs.declared.Token as declared
 use Rattle.cb_lex.specs.View.{tokens_of}
 use Rattle.cb_syntax.specs.Machine.{Item, Chain, Operands, Operand, Args, Commas, ListRest, ListEnd, Goal, GoalTail, MoreGoals, Outcome, run, step, can_end}
@@ -28,6 +28,12 @@ abbrev pub levels : Operator → ℕ
 levels operator.Plus = 4
 levels operator.Hash = 2
 levels operator.Star = 0
+
+-- operands with an operator between them
+abbrev pub joined_form : Op → Forms → Form
+joined_form Plus fs = Or fs
+joined_form Hash fs = Xor fs
+joined_form Star fs = And fs
 
 -- the item of an operand of a chain
 abbrev pub inner : Op → Item
