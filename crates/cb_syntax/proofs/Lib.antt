@@ -7,3 +7,4 @@ pub mod Run
 pub mod Whole
 pub mod Moves
 pub mod Folds
+pub mod GoalMoves

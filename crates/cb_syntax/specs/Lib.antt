@@ -2,3 +2,4 @@ pub mod TokenList
 pub mod Machine
 pub mod Answers
 pub mod Steps
+pub mod Pieces

@@ -1,6 +1,7 @@
 //! Clauses and queries from text.
 #![tactic(auto)]
 
+mod pieces;
 mod read;
 mod token_list;
 
