@@ -70,3 +70,6 @@ chain_built op x [] none one all z n a b c h = absurd (n refl)
 chain_built op x (y ∷ ys) none one all z n a b c h =
     h ∙ ap (λ (l : List RawTerm). joined_form op (forms_of (map form_of l))) (c ∙ ap (λ (l : List RawTerm). l ++ y ∷ ys) (b ∙ ap (λ (l : List RawTerm). l ++ x ∷ []) a))
     ∙ joined_chain op (form_of x) (form_of y) (map form_of ys)
+
+pub pushed_by : {A B : Type 0} (f : A → B) (xs ys : List A) (x : A) → ys ≡ xs ++ x ∷ [] → map f ys ≡ map f xs ++ f x ∷ []
+pushed_by f xs ys x e = ap (map f) e ∙ map-append f xs (x ∷ [])
