@@ -8,3 +8,4 @@ pub mod Whole
 pub mod Moves
 pub mod Folds
 pub mod GoalMoves
+pub mod ClauseMoves
