@@ -1,12 +1,12 @@
 -- From the items behind a token to those before it: a step of the machine takes nothing that the grammar doesn't read.
-use Rattle.std.proofs.Common.{◌≡◌, ℕ, Bool, true, false, ◌⊎◌, inl, inr, List, [], ◌∷◌, ◌++◌, Option, Some, None, refl, sym, ◌∙◌, ap, subst}
+use Rattle.std.proofs.Common.{◌≡◌, true, false, inl, inr, List, [], ◌∷◌, Option, Some, None, refl, subst}
 use Rattle.cb_model.specs.declared.Kind.{Kind}
 use Rattle.cb_model.specs.declared.Kind.TheVariants as kind
 use Rattle.cb_model.specs.Tokens.{Token, name_of}
 use Rattle.cb_model.specs.Grammar as sym
 use Rattle.cb_model.specs.Grammar.{Op, Plus, Hash, Star, Form, Forms, Last, More, Variable, Integer, Name, Closed, Open, Not, one, chain, IsAtom, Reads, a_chain, no_operand, operand, a_not, a_prim, a_variable, an_integer, a_call, a_group, a_nil, a_list, an_open_list, an_atom, a_compound, exprs, no_comma, a_comma, FormGoal, ACall, AnEqual, ReadsGoal, calls, equals, ReadsGoals, last_goal, more_goals, FormClause, Directive, Rule, ReadsClause, directive, fact, rule, FormQuery, ReadsQuery, a_query}
 use Rattle.cb_syntax.specs.Machine.{Item, Chain, Operands, Operand, Args, Commas, ListRest, ListEnd, Close, CloseBracket, End, Equals, AnAtom, Goal, GoalTail, MoreGoals, ClauseTail, Clauses, Queries, Move, Takes, Skips, Refuses, follow, or_skips, operand_move, tails, equation, goal_move, list_move, move, pass, step}
-use Rattle.cb_syntax.proofs.Parts.{ReadsOne, this, ReadsAtom, atom, ReadsArgs, no_args, some_args, ReadsListEnd, closes, opens, ReadsListRest, nothing, elements, ReadsGoalTail, no_tail, a_tail, ReadsMoreGoals, dot, comma, ReadsClauseTail, no_body, body, ReadsMany, no_piece, a_piece, Item-reads, Part, Holds, joins, splits, join_parts, split_parts}
+use Rattle.cb_syntax.proofs.Parts.{ReadsOne, this, ReadsAtom, atom, ReadsArgs, no_args, some_args, ReadsListEnd, closes, opens, ReadsListRest, nothing, elements, ReadsGoalTail, no_tail, a_tail, ReadsMoreGoals, dot, comma, ReadsClauseTail, no_body, body, ReadsMany, no_piece, a_piece, Item-reads, Part, Holds, splits, split_parts}
 
 -- what a move says of the item, where the item reads this token first
 abbrev Out : Move → Item → Token → List Token → Type 0

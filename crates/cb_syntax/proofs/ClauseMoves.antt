@@ -1,6 +1,5 @@
 -- What each exit of the reading functions adds, over plain tokens: clauses and queries.
-use Rattle.std.specs.Prelude.{nat_le}
-use Rattle.std.proofs.Common.{◌≡◌, ℕ, suc, zero, ◌+◌, ◌-◌, ◌<◌, ◌≤◌, Bool, true, false, ◌⊎◌, inl, inr, List, [], ◌∷◌, ◌++◌, length, Option, Some, None, refl, sym, ◌∙◌, ap, subst, arith, append_assoc, append-nil}
+use Rattle.std.proofs.Common.{◌≡◌, ℕ, ◌-◌, true, false, inl, inr, List, [], ◌∷◌, ◌++◌, None, refl, sym, ◌∙◌, ap, subst, arith, append_assoc, append-nil}
 use Rattle.cb_model.specs.declared.Kind.{Kind}
 use Rattle.cb_model.specs.declared.Kind.TheVariants as kind
 use Rattle.cb_model.specs.Tokens.{Token, name_of}
@@ -9,14 +8,13 @@ use Rattle.cb_model.specs.Grammar.{Plus, Form, Forms, one, IsAtom, nest, depth, 
 use Rattle.cb_syntax.specs.Machine.{Item, Chain, Commas, Args, End, AnAtom, Goal, MoreGoals, ClauseTail, Clauses, Queries, Outcome, step, choose, run, can_end}
 use Rattle.cb_syntax.specs.Machine as out
 use Rattle.cb_syntax.specs.declared.read.Stop.{Stop}
-use Rattle.cb_syntax.specs.declared.read.Stop.TheVariants.{Memory, Ended, Wrong, Deep}
+use Rattle.cb_syntax.specs.declared.read.Stop.TheVariants.{Ended, Wrong}
 use Rattle.cb_syntax.specs.Answers.{Agrees, IsText, NoText}
 use Rattle.cb_syntax.specs.Steps.{TookTerms, NoTerms, TookCall, NoCall, Ahead, AheadOf, Only, NotAhead}
 use Rattle.cb_syntax.specs.Pieces.{TookGoals, NoGoals, TookClause, NoClause, TookQuery, NoQuery}
 use Rattle.cb_syntax.proofs.Moves.{taken, refused, agrees, left_is, atom_small}
 use Rattle.cb_syntax.proofs.GoalMoves.{alike_at}
-use Rattle.cb_syntax.proofs.Whole.{Starts, clauses_start, queries_start, stopped, whole}
-
+use Rattle.cb_syntax.proofs.Whole.{Starts, stopped, whole}
 
 only_dot : (is : List Item) → Only kind.Dot (End ∷ is)
 only_dot is = record { no_end = refl; others = others }
@@ -51,6 +49,7 @@ module _ (all at : ℕ) (ts us : List Token) (t : Token) (a : Ahead all at ts t 
           by : (k : Kind) (s : Token) (zs : List Token) → nest kind.Atom (record s { kind = k } ∷ zs) (0 ∷ []) ≡ 0 ∷ []
           by kind.LeftParen s zs = refl
           by _ s zs = refl
+
           same : (zs : List Token) → nest kind.Atom zs (0 ∷ []) ≡ 0 ∷ []
           same [] = refl
           same (s ∷ zs) = by s.kind s zs

@@ -1,13 +1,13 @@
 -- The forms of written terms, by their constructors.
-use Rattle.std.specs.Prelude.{MatchResult, option_map}
-use Rattle.std.proofs.Common.{◌≡◌, Bor, ℕ, List, [], ◌∷◌, ◌++◌, ◌∙◌, map, Option, Some, None, Result, Ok, Err, sym, refl, ap}
+use Rattle.std.specs.Prelude.{MatchResult}
+use Rattle.std.proofs.Common.{◌≡◌, Bor, ℕ, List, [], ◌∷◌, ◌++◌, ◌∙◌, map, Some, None, Result, Ok, Err, sym, refl, ap}
 use Rattle.std.proofs.lemmas.List.{map-append}
 use Rattle.cb_model.specs.declared.RawTerm.{RawTerm}
 use Rattle.cb_model.specs.declared.RawTerm.TheVariants as raw
 use Rattle.cb_model.specs.declared.RawTerm.TheOpen.{RawTerm-F}
 use Rattle.cb_model.specs.declared.RawTerm.TheFolds.{fold-RawTerm, fold-roll-RawTerm}
-use Rattle.cb_model.specs.Grammar.{Op, Plus, Hash, Star, Form, Forms, Variable, Integer, Name, Closed, Open, Not, And, Xor, Or, Last, More, chain}
-use Rattle.cb_model.specs.Forms.{form_of, forms_of, form_step, list_form}
+use Rattle.cb_model.specs.Grammar.{Op, Plus, Hash, Star, Form, Variable, Integer, Name, Closed, Open, Not, And, Xor, Or, Last, chain}
+use Rattle.cb_model.specs.Forms.{form_of, forms_of, form_step}
 use Rattle.cb_syntax.specs.Steps.{joined_form}
 
 pub form_and : (xs : List RawTerm) → form_of (raw.And xs) ≡ And (forms_of (map form_of xs))

@@ -1,12 +1,12 @@
 -- From the items before a token to those behind it: where the grammar reads a token, the machine takes it.
-use Rattle.std.proofs.Common.{◌≡◌, ℕ, Bool, true, false, ◌⊎◌, inl, inr, List, [], ◌∷◌, ◌++◌, Option, Some, None, refl, sym, ◌∙◌, ap, subst}
+use Rattle.std.proofs.Common.{◌≡◌, true, ◌⊎◌, inl, inr, List, [], ◌∷◌, ◌++◌, refl, sym, ◌∙◌, ap, subst}
 use Rattle.cb_model.specs.declared.Kind.{Kind}
 use Rattle.cb_model.specs.declared.Kind.TheVariants as kind
-use Rattle.cb_model.specs.Tokens.{Token, name_of}
+use Rattle.cb_model.specs.Tokens.{Token}
 use Rattle.cb_model.specs.Grammar as sym
 use Rattle.cb_model.specs.Grammar.{Op, Plus, Hash, Star, Form, Forms, Last, More, one, chain, tighter, op_kind, IsAtom, Reads, a_chain, no_operand, operand, a_not, a_prim, a_variable, an_integer, a_call, a_group, a_nil, a_list, an_open_list, an_atom, a_compound, exprs, no_comma, a_comma, FormGoal, ReadsGoal, calls, equals, ReadsGoals, last_goal, more_goals, FormClause, ReadsClause, directive, fact, rule, FormQuery, ReadsQuery, a_query}
-use Rattle.cb_syntax.specs.Machine.{Item, Chain, Operands, Operand, Args, Commas, ListRest, ListEnd, Close, CloseBracket, End, Equals, AnAtom, Goal, GoalTail, MoreGoals, ClauseTail, Clauses, Queries, Move, Takes, Skips, Refuses, follow, or_skips, operand_move, tails, equation, goal_move, list_move, move, pass, step, is_optional}
-use Rattle.cb_syntax.proofs.Parts.{ReadsOne, this, ReadsAtom, atom, ReadsArgs, no_args, some_args, ReadsListEnd, closes, opens, ReadsListRest, nothing, elements, ReadsGoalTail, no_tail, a_tail, ReadsMoreGoals, dot, comma, ReadsClauseTail, no_body, body, ReadsMany, no_piece, a_piece, Item-reads, Part, Holds, joins, splits, join_parts, split_parts}
+use Rattle.cb_syntax.specs.Machine.{Item, Chain, Operands, Operand, Args, Commas, ListRest, ListEnd, Close, CloseBracket, End, Equals, AnAtom, Goal, GoalTail, MoreGoals, ClauseTail, Clauses, Queries, Move, Takes, Skips, Refuses, follow, or_skips, operand_move, tails, equation, goal_move, list_move, move, is_optional}
+use Rattle.cb_syntax.proofs.Parts.{ReadsOne, this, ReadsAtom, atom, ReadsArgs, no_args, some_args, ReadsListEnd, closes, opens, ReadsListRest, nothing, elements, ReadsGoalTail, no_tail, a_tail, ReadsMoreGoals, dot, comma, ReadsClauseTail, no_body, body, ReadsMany, no_piece, a_piece, Item-reads, Part, join_parts, split_parts}
 
 -- a move takes the token, and the items behind it read the rest
 abbrev Fore-move : Move → List Token → List Token → Type 0
@@ -180,6 +180,7 @@ atom_tail ts us p = (p.0, p.1, (us, whole p.0 us p.2, refl))
     equal : (us vs ws xs zs : List Token) → Item-reads (Operands Star) us vs → Item-reads (Operands Hash) vs ws → Item-reads (Operands Plus) ws xs → (os : List Token) → ReadsOne kind.Equals xs os →
         Item-reads (Chain Plus) os zs → ReadsGoalTail us zs
     equal us vs ws xs zs a b c os (this {t = e} h) d = a_tail vs ws os e a.0 b.0 c.0 d.0 a.1 b.1 c.1 h d.1
+
     whole : (us zs : List Token) → Part equation us zs → ReadsGoalTail us zs
     whole us zs q = subst (λ os. ReadsGoalTail us os) q.2.2.2.2.2 (equal us q.0 q.2.0 q.2.2.0 q.2.2.2.2.0 q.1 q.2.1 q.2.2.1 q.2.2.2.0 q.2.2.2.1 q.2.2.2.2.1)
 

@@ -1,17 +1,17 @@
 -- What each exit of the reading functions adds, over plain tokens: goals.
 use Rattle.std.specs.Prelude.{nat_le}
-use Rattle.std.proofs.Common.{◌≡◌, ℕ, suc, zero, ◌+◌, ◌-◌, ◌<◌, ◌≤◌, Bool, true, false, ◌⊎◌, inl, inr, List, [], ◌∷◌, ◌++◌, length, Option, Some, None, refl, sym, ◌∙◌, ap, subst, arith, append_assoc}
+use Rattle.std.proofs.Common.{◌≡◌, ℕ, ◌-◌, true, false, inl, inr, List, [], ◌∷◌, ◌++◌, length, None, refl, sym, ◌∙◌, ap, subst, arith, append_assoc}
 use Rattle.cb_model.specs.declared.Kind.{Kind}
 use Rattle.cb_model.specs.declared.Kind.TheVariants as kind
-use Rattle.cb_model.specs.Tokens.{Token, name_of}
+use Rattle.cb_model.specs.Tokens.{Token}
 use Rattle.cb_model.specs.Grammar as sym
 use Rattle.cb_model.specs.Grammar.{Op, Plus, Hash, Star, Form, Forms, one, chain, IsAtom, nest, depth, Reads, a_chain, a_prim, a_call, FormGoal, ACall, AnEqual, ReadsGoal, calls, equals, ReadsGoals, last_goal, more_goals}
 use Rattle.cb_syntax.specs.Machine.{Item, Chain, Operands, Operand, Args, Close, Equals, Goal, GoalTail, MoreGoals, Outcome, step, choose, run, can_end}
 use Rattle.cb_syntax.specs.Machine as out
 use Rattle.cb_syntax.specs.declared.read.Stop.{Stop}
-use Rattle.cb_syntax.specs.declared.read.Stop.TheVariants.{Memory, Ended, Wrong, Deep}
+use Rattle.cb_syntax.specs.declared.read.Stop.TheVariants.{Memory, Ended, Wrong}
 use Rattle.cb_syntax.specs.Answers.{Agrees}
-use Rattle.cb_syntax.specs.Steps.{Took, Stops, TookChain, TookCall, NoCall, TookOperands, Ahead, AheadOf, Only, NotAhead}
+use Rattle.cb_syntax.specs.Steps.{Stops, TookChain, TookCall, NoCall, TookOperands, Ahead, AheadOf, Only, NotAhead}
 use Rattle.cb_syntax.specs.Pieces.{tail_next, chain_rest, TookRest, NoRest, TookEquation, NoEquation, TookGoal, NoGoal, TookGoals, NoGoals}
 use Rattle.cb_syntax.proofs.Moves.{taken, refused, agrees, left_is, atom_small}
 
@@ -119,6 +119,7 @@ module _ (all at : ℕ) (ts us : List Token) (t : Token) (a : Ahead all at ts t 
           skip is l os kind.Plus n = absurd (cc)
           skip is l os kind.Equals n = absurd (cc)
           skip is l os _ n = refl
+
           skips : (is : List Item) (os : List Token) → tail_next os ≡ false → run (GoalTail ∷ is) (0 ∷ []) os ≡ run is (0 ∷ []) os
           skips is [] n = refl
           skips is (l ∷ os) n = alike_at (GoalTail ∷ is) is (0 ∷ []) l os (skip is l os l.kind n)
@@ -133,6 +134,7 @@ module _ (all at : ℕ) (ts us : List Token) (t : Token) (a : Ahead all at ts t 
             go is l os kind.Plus n = refl
             go is l os kind.Equals n = refl
             go is l os _ n = absurd (cc)
+
             goes : (is : List Item) (os : List Token) → tail_next os ≡ true → run (GoalTail ∷ is) (0 ∷ []) os ≡ run (chain_rest (Equals ∷ Chain Plus ∷ is)) (0 ∷ []) os
             goes is [] n = absurd (cc)
             goes is (l ∷ os) n = alike_at (GoalTail ∷ is) (chain_rest (Equals ∷ Chain Plus ∷ is)) (0 ∷ []) l os (go is l os l.kind n)

@@ -1,6 +1,6 @@
 -- What each exit of the reading functions adds, over plain tokens: terms.
 use Rattle.std.specs.Prelude.{nat_le, slice_get}
-use Rattle.std.proofs.Common.{◌≡◌, ◌≢◌, ℕ, suc, zero, ◌+◌, ◌-◌, ◌<◌, ◌≤◌, Bool, true, false, ◌⊎◌, inl, inr, List, [], ◌∷◌, ◌++◌, length, get_or, map, drop, Option, Some, None, refl, sym, ◌∙◌, ap, subst, arith, add-one, append_assoc}
+use Rattle.std.proofs.Common.{◌≡◌, ℕ, suc, zero, ◌+◌, ◌-◌, ◌<◌, ◌≤◌, false, inl, inr, List, [], ◌∷◌, ◌++◌, length, map, Some, None, refl, sym, ◌∙◌, ap, subst, arith, add-one}
 use Rattle.std.proofs.lemmas.List.{length-map}
 use Rattle.std.proofs.lemmas.Bool.{lt-leb, le-leb}
 use Rattle.std.proofs.lemmas.List.Sums.{sum_by-cons}
@@ -17,7 +17,7 @@ use Rattle.cb_syntax.specs.Machine as out
 use Rattle.cb_syntax.specs.declared.read.Stop.{Stop}
 use Rattle.cb_syntax.specs.declared.read.Stop.TheVariants.{Memory, Ended, Wrong, Deep}
 use Rattle.cb_syntax.specs.Answers.{Agrees}
-use Rattle.cb_syntax.specs.Steps.{rest, inner, Took, Stops, TookChain, TookInner, TookOperand, NoOperand, TookCall, NoCall, TookTerms, NoTerms, TookList, NoList, TookListEnd, NoListEnd, TookOperands, NoKind, Ahead, AheadOf, Only, NotAhead}
+use Rattle.cb_syntax.specs.Steps.{rest, inner, Stops, TookChain, TookInner, TookOperand, NoOperand, TookCall, NoCall, TookTerms, NoTerms, TookList, NoList, TookListEnd, NoListEnd, TookOperands, NoKind, Ahead, AheadOf, Only, NotAhead}
 
 -- the token at a place
 place : (ts : List declared.Token) (at : ℕ) (t : declared.Token) → slice_get ts at ≡ Some t → Ahead (length ts) at (rest ts at) (token_of t) (rest ts (suc at))

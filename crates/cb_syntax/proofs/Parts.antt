@@ -1,5 +1,5 @@
 -- What each expected item reads, and what items read one after the other.
-use Rattle.std.proofs.Common.{◌≡◌, ℕ, Bool, true, false, ◌⊎◌, inl, inr, List, [], ◌∷◌, ◌++◌, Option, Some, None, refl, sym, ◌∙◌, ap, subst}
+use Rattle.std.proofs.Common.{◌≡◌, List, [], ◌∷◌, ◌++◌, refl, sym, subst}
 use Rattle.cb_model.specs.declared.Kind.{Kind}
 use Rattle.cb_model.specs.declared.Kind.TheVariants as kind
 use Rattle.cb_model.specs.Tokens.{Token}

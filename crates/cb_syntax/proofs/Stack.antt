@@ -1,13 +1,13 @@
 -- A stack of expected items on which each token has one move, and what such a stack reads.
-use Rattle.std.specs.Prelude.{if◌then◌else◌, ℤ}
-use Rattle.std.proofs.Common.{◌≡◌, ℕ, Bool, true, false, ◌⊎◌, inl, inr, List, [], ◌∷◌, ◌++◌, Option, Some, None, refl, sym, ◌∙◌, ap, subst, append_assoc}
+use Rattle.std.specs.Prelude.{if◌then◌else◌}
+use Rattle.std.proofs.Common.{◌≡◌, Bool, true, false, inl, inr, List, [], ◌∷◌, ◌++◌, Option, Some, None, refl, sym, ap, subst, append_assoc}
 use Rattle.cb_model.specs.declared.Kind.{Kind}
 use Rattle.cb_model.specs.declared.Kind.TheVariants as kind
-use Rattle.cb_model.specs.Tokens.{Token, name_of}
+use Rattle.cb_model.specs.Tokens.{Token}
 use Rattle.cb_model.specs.Grammar as sym
 use Rattle.cb_model.specs.Grammar.{Op, Plus, Hash, Star, Form, Forms, Last, More, Variable, Name, one, chain, IsAtom, Reads, a_chain, no_operand, operand, a_prim, a_variable, a_call, an_atom, no_comma, FormGoal, ACall, ReadsGoal, calls, equals, ReadsGoals, last_goal, more_goals, FormClause, ReadsClause, directive, fact, rule, FormQuery, ReadsQuery, a_query, exprs}
 use Rattle.cb_syntax.specs.Machine.{Item, Chain, Operands, Operand, Args, Commas, ListRest, ListEnd, Close, CloseBracket, End, Equals, AnAtom, Goal, GoalTail, MoreGoals, ClauseTail, Clauses, Queries, Move, Takes, Skips, Refuses, follow, or_skips, operand_move, tails, equation, goal_move, list_move, move, pass, step, is_optional, can_end}
-use Rattle.cb_syntax.proofs.Parts.{ReadsOne, this, ReadsAtom, atom, ReadsArgs, no_args, some_args, ReadsListEnd, closes, opens, ReadsListRest, nothing, elements, ReadsGoalTail, no_tail, a_tail, ReadsMoreGoals, dot, comma, ReadsClauseTail, no_body, body, ReadsMany, no_piece, a_piece, Item-reads, Part, Holds, joins, splits}
+use Rattle.cb_syntax.proofs.Parts.{this, atom, no_args, closes, ReadsListRest, nothing, elements, ReadsGoalTail, no_tail, a_tail, dot, no_body, ReadsMany, no_piece, a_piece, Item-reads, Holds, joins}
 use Rattle.cb_syntax.proofs.Fore.{Fore-item, in_item}
 
 -- ---- stacks on which each token has one move

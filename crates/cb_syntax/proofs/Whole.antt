@@ -1,10 +1,9 @@
 -- From the machine's answer on all tokens to the grammar's.
-use Rattle.std.specs.Prelude.{All}
-use Rattle.std.proofs.Common.{◌≡◌, ℕ, suc, zero, ◌+◌, ◌-◌, ◌<◌, ◌≤◌, ◌⊎◌, inl, inr, Option, None, List, [], ◌∷◌, ◌++◌, length, get_or, take, refl, sym, ◌∙◌, ap, subst, arith, ⊎_elim}
+use Rattle.std.proofs.Common.{◌≡◌, ℕ, suc, ◌<◌, ◌≤◌, List, [], ◌∷◌, ◌++◌, length, take, refl, sym, ap, subst, arith, ⊎_elim}
 use Rattle.std.proofs.lemmas.List.Elements.{All-from_get_or}
 use Rattle.std.proofs.lemmas.Bool.{cases_lt}
 use Rattle.cb_model.specs.Tokens.{Token}
-use Rattle.cb_model.specs.Grammar.{nest, depth, nestings, ReadsAll, no_more, one_more, CanGoOn, FirstWrong, FirstDeep, ReadsClause, ReadsQuery, FormClause, FormQuery}
+use Rattle.cb_model.specs.Grammar.{nest, nestings, ReadsAll, no_more, one_more, CanGoOn, FirstDeep, ReadsClause, ReadsQuery}
 use Rattle.cb_syntax.specs.Machine.{Item, Clauses, Queries, Outcome, run}
 use Rattle.cb_syntax.specs.Machine as out
 use Rattle.cb_syntax.specs.declared.read.Stop.{Stop}
@@ -12,7 +11,7 @@ use Rattle.cb_syntax.specs.declared.read.Stop.TheVariants.{Memory, Ended, Wrong,
 use Rattle.cb_syntax.specs.Answers.{Agrees, IsText, NoText}
 use Rattle.cb_syntax.proofs.Parts.{ReadsMany, no_piece, a_piece, Holds}
 use Rattle.cb_syntax.proofs.Stack.{Good}
-use Rattle.cb_syntax.proofs.Run.{Says, says, CanGo, Shallow, WrongAt, DeepAt}
+use Rattle.cb_syntax.proofs.Run.{Says, says, CanGo, Shallow}
 
 to_all : {A : Type 0} {R : List Token → List Token → A → Type 0} (ts us : List Token) → ReadsMany R ts us → us ≡ [] → (xs : List A) × ReadsAll R ts xs
 to_all {R = R} ts us no_piece e = ([], subst (λ vs. ReadsAll R vs []) (sym e) no_more)

@@ -1,8 +1,8 @@
 -- What the reading functions of goals, clauses and queries answer to one another.
-use Rattle.std.specs.Prelude.{◌≡◌, ℕ, Bool, true, false, List, [], ◌∷◌, ◌++◌}
+use Rattle.std.specs.Prelude.{◌≡◌, Bool, true, false, List, [], ◌∷◌}
 use Rattle.cb_model.specs.declared.Kind.{Kind}
 use Rattle.cb_model.specs.declared.Kind.TheVariants as kind
-use Rattle.cb_model.specs.Tokens.{Token, name_of}
+use Rattle.cb_model.specs.Tokens.{Token}
 use Rattle.cb_model.specs.Grammar as sym
 use Rattle.cb_model.specs.Grammar.{Op, Plus, Hash, Star, Form, Forms, one, IsAtom, Reads, FormGoal, ReadsGoal, ReadsGoals, FormClause, ReadsClause, FormQuery, ReadsQuery}
 use Rattle.cb_syntax.specs.Machine.{Item, Chain, Operands, Equals, Goal, MoreGoals, Clauses, Queries, run}

@@ -1,5 +1,5 @@
 -- What the reading functions answer to one another: for every stack below, the machine stands behind what was read.
-use Rattle.std.specs.Prelude.{◌≡◌, ◌≢◌, ℕ, suc, ◌+◌, ◌<◌, ◌≤◌, Bool, true, false, List, [], ◌∷◌, ◌++◌, length, take, drop, Option, None}
+use Rattle.std.specs.Prelude.{◌≡◌, ◌≢◌, ℕ, ◌+◌, ◌<◌, false, List, [], ◌∷◌, length, drop, None}
 use Rattle.cb_model.specs.declared.Kind.{Kind}
 use Rattle.cb_model.specs.declared.Kind.TheVariants as kind
 use Rattle.cb_model.specs.Tokens.{Token}
@@ -7,7 +7,7 @@ use Rattle.cb_model.specs.Grammar as sym
 use Rattle.cb_model.specs.Grammar.{Op, Plus, Hash, Star, op_kind, tighter, Form, Forms, And, Xor, Or, one, depth, nest, IsAtom, Reads, FormGoal, ReadsGoal, ReadsGoals, FormClause, ReadsClause}
 use Rattle.cb_lex.specs.declared.Token as declared
 use Rattle.cb_lex.specs.View.{tokens_of}
-use Rattle.cb_syntax.specs.Machine.{Item, Chain, Operands, Operand, Args, Commas, ListRest, ListEnd, Goal, GoalTail, MoreGoals, Outcome, run, step, can_end}
+use Rattle.cb_syntax.specs.Machine.{Item, Chain, Operands, Operand, Args, Commas, ListRest, ListEnd, run, step, can_end}
 use Rattle.cb_syntax.specs.Answers.{Agrees}
 use Rattle.cb_syntax.specs.declared.read.Stop.{Stop}
 use Rattle.cb_syntax.specs.declared.read.Operator.{Operator}

@@ -30,7 +30,12 @@ fn goes_on(tokens: &[Token<'_>], at: usize) -> bool
 }
 
 /// A chain behind its first operand.
-fn chain_behind<'s>(alloc: Global, first: RawTerm<'s>, tokens: &[Token<'s>], at: usize) -> Result<(RawTerm<'s>, usize), Stop>
+fn chain_behind<'s>(
+    alloc: Global,
+    first: RawTerm<'s>,
+    tokens: &[Token<'s>],
+    at: usize,
+) -> Result<(RawTerm<'s>, usize), Stop>
     ensures answer { MatchResult result (λ r. TookRest (form_of first.entry) (rest tokens.now at) (rest tokens.now r.1) (form_of r.0)) (λ e. NoRest (rest tokens.now at) e) }
     ensures forward { IfOk result (λ r. at ≤ r.1) }
 {
@@ -44,7 +49,12 @@ fn chain_behind<'s>(alloc: Global, first: RawTerm<'s>, tokens: &[Token<'s>], at:
 }
 
 /// `=` and a term behind a term.
-fn equation<'s>(alloc: Global, left: RawTerm<'s>, tokens: &[Token<'s>], at: usize) -> Result<(RawGoal<'s>, usize), Stop>
+fn equation<'s>(
+    alloc: Global,
+    left: RawTerm<'s>,
+    tokens: &[Token<'s>],
+    at: usize,
+) -> Result<(RawGoal<'s>, usize), Stop>
     ensures answer { MatchResult result (λ r. TookEquation (form_of left.entry) (rest tokens.now at) (rest tokens.now r.1) (goal_form r.0)) (λ e. NoEquation (rest tokens.now at) e) }
     ensures forward { IfOk result (λ r. at < r.1) }
 {
@@ -71,7 +81,12 @@ fn goal<'s>(alloc: Global, tokens: &[Token<'s>], at: usize) -> Result<(RawGoal<'
 }
 
 /// A goal that begins with an atom.
-fn call_goal<'s>(alloc: Global, first: Token<'s>, tokens: &[Token<'s>], at: usize) -> Result<(RawGoal<'s>, usize), Stop>
+fn call_goal<'s>(
+    alloc: Global,
+    first: Token<'s>,
+    tokens: &[Token<'s>],
+    at: usize,
+) -> Result<(RawGoal<'s>, usize), Stop>
     requires ahead { Ahead (length tokens.now) at (rest tokens.now at) (token_of first) (rest tokens.now (at + 1)) }
     requires atom { IsAtom (token_of first) }
     ensures answer { MatchResult result (λ r. TookGoal (rest tokens.now at) (rest tokens.now r.1) (goal_form r.0)) (λ e. NoGoal (rest tokens.now at) e) }
@@ -86,7 +101,11 @@ fn call_goal<'s>(alloc: Global, first: Token<'s>, tokens: &[Token<'s>], at: usiz
 }
 
 /// Goals with commas between them, up to a dot.
-fn goals<'s>(alloc: Global, tokens: &[Token<'s>], at: usize) -> Result<(Items<RawGoal<'s>>, usize), Stop>
+fn goals<'s>(
+    alloc: Global,
+    tokens: &[Token<'s>],
+    at: usize,
+) -> Result<(Items<RawGoal<'s>>, usize), Stop>
     ensures answer { MatchResult result (λ r. TookGoals (rest tokens.now at) (rest tokens.now r.1) (map goal_form r.0)) (λ e. NoGoals (rest tokens.now at) e) }
     ensures forward { IfOk result (λ r. at < r.1) }
 {
@@ -113,7 +132,12 @@ fn goals<'s>(alloc: Global, tokens: &[Token<'s>], at: usize) -> Result<(Items<Ra
 }
 
 /// A directive behind its `:-`.
-fn directive<'s>(alloc: Global, first: Token<'s>, tokens: &[Token<'s>], at: usize) -> Result<(RawClause<'s>, usize), Stop>
+fn directive<'s>(
+    alloc: Global,
+    first: Token<'s>,
+    tokens: &[Token<'s>],
+    at: usize,
+) -> Result<(RawClause<'s>, usize), Stop>
     requires ahead { Ahead (length tokens.now) at (rest tokens.now at) (token_of first) (rest tokens.now (at + 1)) }
     requires neck { (token_of first).kind ≡ kind.Neck }
     ensures answer { MatchResult result (λ r. TookClause (rest tokens.now at) (rest tokens.now r.1) (clause_form r.0)) (λ e. NoClause (rest tokens.now at) e) }
@@ -128,7 +152,14 @@ fn directive<'s>(alloc: Global, first: Token<'s>, tokens: &[Token<'s>], at: usiz
     }
     let (args, after) = terms(alloc, tokens, place + 1, 0)?;
     let behind = expect(Kind::Dot, tokens, after)?;
-    Ok((RawClause::Directive { line: first.line, word: word.name(), args }, behind))
+    Ok((
+        RawClause::Directive {
+            line: first.line,
+            word: word.name(),
+            args,
+        },
+        behind,
+    ))
 }
 
 /// Whether a token of this kind is an atom.
@@ -142,7 +173,12 @@ fn is_atom(found: Kind) -> bool
 }
 
 /// A fact or a rule that begins with this atom.
-fn rule<'s>(alloc: Global, first: Token<'s>, tokens: &[Token<'s>], at: usize) -> Result<(RawClause<'s>, usize), Stop>
+fn rule<'s>(
+    alloc: Global,
+    first: Token<'s>,
+    tokens: &[Token<'s>],
+    at: usize,
+) -> Result<(RawClause<'s>, usize), Stop>
     requires ahead { Ahead (length tokens.now) at (rest tokens.now at) (token_of first) (rest tokens.now (at + 1)) }
     requires atom { IsAtom (token_of first) }
     ensures answer { MatchResult result (λ r. TookClause (rest tokens.now at) (rest tokens.now r.1) (clause_form r.0)) (λ e. NoClause (rest tokens.now at) e) }
@@ -153,17 +189,38 @@ fn rule<'s>(alloc: Global, first: Token<'s>, tokens: &[Token<'s>], at: usize) ->
         return Err(Stop::Ended);
     };
     match next.kind {
-        Kind::Dot => Ok((RawClause::Rule { line: first.line, head, bodied: false, body: Items::new(alloc) }, after + 1)),
+        Kind::Dot => Ok((
+            RawClause::Rule {
+                line: first.line,
+                head,
+                bodied: false,
+                body: Items::new(alloc),
+            },
+            after + 1,
+        )),
         Kind::Neck => {
             let (body, behind) = goals(alloc, tokens, after + 1)?;
-            Ok((RawClause::Rule { line: first.line, head, bodied: true, body }, behind))
+            Ok((
+                RawClause::Rule {
+                    line: first.line,
+                    head,
+                    bodied: true,
+                    body,
+                },
+                behind,
+            ))
         }
         _ => Err(Stop::Wrong(tokens.len() - after)),
     }
 }
 
 /// The clause that this token begins.
-fn clause<'s>(alloc: Global, first: Token<'s>, tokens: &[Token<'s>], at: usize) -> Result<(RawClause<'s>, usize), Stop>
+fn clause<'s>(
+    alloc: Global,
+    first: Token<'s>,
+    tokens: &[Token<'s>],
+    at: usize,
+) -> Result<(RawClause<'s>, usize), Stop>
     requires { Ahead (length tokens.now) at (rest tokens.now at) (token_of first) (rest tokens.now (at + 1)) }
     ensures answer { MatchResult result (λ r. TookClause (rest tokens.now at) (rest tokens.now r.1) (clause_form r.0)) (λ e. NoClause (rest tokens.now at) e) }
     ensures forward { IfOk result (λ r. at < r.1) }
@@ -176,13 +233,24 @@ fn clause<'s>(alloc: Global, first: Token<'s>, tokens: &[Token<'s>], at: usize) 
 }
 
 /// The query that this token begins.
-fn query<'s>(alloc: Global, first: Token<'s>, tokens: &[Token<'s>], at: usize) -> Result<(RawQuery<'s>, usize), Stop>
+fn query<'s>(
+    alloc: Global,
+    first: Token<'s>,
+    tokens: &[Token<'s>],
+    at: usize,
+) -> Result<(RawQuery<'s>, usize), Stop>
     requires { Ahead (length tokens.now) at (rest tokens.now at) (token_of first) (rest tokens.now (at + 1)) }
     ensures answer { MatchResult result (λ r. TookQuery (rest tokens.now at) (rest tokens.now r.1) (query_form r.0)) (λ e. NoQuery (rest tokens.now at) e) }
     ensures forward { IfOk result (λ r. at < r.1) }
 {
     let (goals, behind) = goals(alloc, tokens, at)?;
-    Ok((RawQuery { line: first.line, goals }, behind))
+    Ok((
+        RawQuery {
+            line: first.line,
+            goals,
+        },
+        behind,
+    ))
 }
 
 /// One piece more.

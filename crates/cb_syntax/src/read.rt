@@ -85,7 +85,12 @@ pub fn expect(kind: Kind, tokens: &[Token<'_>], at: usize) -> Result<usize, Stop
 
 /// An operand of the tightest chain: `~` and an operand, or a variable, an integer, a call, a list or a group.
 #[cycle(reader)]
-pub fn operand<'s>(alloc: Global, tokens: &[Token<'s>], at: usize, depth: u32) -> Result<(RawTerm<'s>, usize), Stop>
+pub fn operand<'s>(
+    alloc: Global,
+    tokens: &[Token<'s>],
+    at: usize,
+    depth: u32,
+) -> Result<(RawTerm<'s>, usize), Stop>
     requires { depth ≤ 256 }
     ensures answer { MatchResult result (λ r. TookOperand depth (rest tokens.now at) (rest tokens.now r.1) (form_of r.0)) (λ e. NoOperand depth (rest tokens.now at) e) }
     ensures forward { IfOk result (λ r. at < r.1) }
@@ -124,7 +129,13 @@ pub fn operand<'s>(alloc: Global, tokens: &[Token<'s>], at: usize, depth: u32) -
 
 /// What follows an atom: its arguments, or nothing.
 #[cycle(reader)]
-pub fn call<'s>(alloc: Global, atom: Token<'s>, tokens: &[Token<'s>], at: usize, depth: u32) -> Result<(RawTerm<'s>, usize), Stop>
+pub fn call<'s>(
+    alloc: Global,
+    atom: Token<'s>,
+    tokens: &[Token<'s>],
+    at: usize,
+    depth: u32,
+) -> Result<(RawTerm<'s>, usize), Stop>
     requires limit { depth ≤ 256 }
     requires atom { IsAtom (token_of atom) }
     ensures answer { MatchResult result (λ r. TookCall depth (token_of atom.entry) (rest tokens.now at) (rest tokens.now r.1) (form_of r.0)) (λ e. NoCall depth (rest tokens.now at) e) }
@@ -143,7 +154,12 @@ pub fn call<'s>(alloc: Global, atom: Token<'s>, tokens: &[Token<'s>], at: usize,
 
 /// Terms with commas between them.
 #[cycle(reader)]
-pub fn terms<'s>(alloc: Global, tokens: &[Token<'s>], at: usize, depth: u32) -> Result<(Items<RawTerm<'s>>, usize), Stop>
+pub fn terms<'s>(
+    alloc: Global,
+    tokens: &[Token<'s>],
+    at: usize,
+    depth: u32,
+) -> Result<(Items<RawTerm<'s>>, usize), Stop>
     requires { depth ≤ 256 }
     ensures answer { MatchResult result (λ r. TookTerms depth (rest tokens.now at) (rest tokens.now r.1) (forms_of (map form_of r.0))) (λ e. NoTerms depth (rest tokens.now at) e) }
     ensures forward { IfOk result (λ r. at < r.1) }
@@ -162,7 +178,12 @@ pub fn terms<'s>(alloc: Global, tokens: &[Token<'s>], at: usize, depth: u32) -> 
 
 /// The rest of a list behind its bracket.
 #[cycle(reader)]
-fn list<'s>(alloc: Global, tokens: &[Token<'s>], at: usize, depth: u32) -> Result<(RawTerm<'s>, usize), Stop>
+fn list<'s>(
+    alloc: Global,
+    tokens: &[Token<'s>],
+    at: usize,
+    depth: u32,
+) -> Result<(RawTerm<'s>, usize), Stop>
     requires { depth ≤ 256 }
     ensures answer { MatchResult result (λ r. TookList depth (rest tokens.now at) (rest tokens.now r.1) (form_of r.0)) (λ e. NoList depth (rest tokens.now at) e) }
     ensures forward { IfOk result (λ r. at < r.1) }
@@ -176,7 +197,13 @@ fn list<'s>(alloc: Global, tokens: &[Token<'s>], at: usize, depth: u32) -> Resul
 
 /// The end of a list behind its elements: a tail, or none.
 #[cycle(reader)]
-fn list_end<'s>(alloc: Global, elements: Items<RawTerm<'s>>, tokens: &[Token<'s>], at: usize, depth: u32) -> Result<(RawTerm<'s>, usize), Stop>
+fn list_end<'s>(
+    alloc: Global,
+    elements: Items<RawTerm<'s>>,
+    tokens: &[Token<'s>],
+    at: usize,
+    depth: u32,
+) -> Result<(RawTerm<'s>, usize), Stop>
     requires { depth ≤ 256 }
     ensures answer { MatchResult result (λ r. TookListEnd depth (forms_of (map form_of elements.entry)) (rest tokens.now at) (rest tokens.now r.1) (form_of r.0)) (λ e. NoListEnd depth (rest tokens.now at) e) }
     ensures forward { IfOk result (λ r. at < r.1) }
@@ -197,7 +224,13 @@ fn list_end<'s>(alloc: Global, elements: Items<RawTerm<'s>>, tokens: &[Token<'s>
 
 /// Operands with one operator between them, or a single operand.
 #[cycle(reader)]
-pub fn chain<'s>(alloc: Global, op: Operator, tokens: &[Token<'s>], at: usize, depth: u32) -> Result<(RawTerm<'s>, usize), Stop>
+pub fn chain<'s>(
+    alloc: Global,
+    op: Operator,
+    tokens: &[Token<'s>],
+    at: usize,
+    depth: u32,
+) -> Result<(RawTerm<'s>, usize), Stop>
     requires { depth ≤ 256 }
     ensures answer { MatchResult result (λ r. TookChain (op_of op) depth (rest tokens.now at) (rest tokens.now r.1) (form_of r.0)) (λ e. Stops (ChainItem (op_of op)) depth (rest tokens.now at) e) }
     ensures forward { IfOk result (λ r. at < r.1) }
@@ -210,7 +243,13 @@ pub fn chain<'s>(alloc: Global, op: Operator, tokens: &[Token<'s>], at: usize, d
 
 /// An operand of a chain of this operator.
 #[cycle(reader)]
-fn tighter<'s>(alloc: Global, op: Operator, tokens: &[Token<'s>], at: usize, depth: u32) -> Result<(RawTerm<'s>, usize), Stop>
+fn tighter<'s>(
+    alloc: Global,
+    op: Operator,
+    tokens: &[Token<'s>],
+    at: usize,
+    depth: u32,
+) -> Result<(RawTerm<'s>, usize), Stop>
     requires { depth ≤ 256 }
     ensures answer { MatchResult result (λ r. TookInner (op_of op) depth (rest tokens.now at) (rest tokens.now r.1) (form_of r.0)) (λ e. Stops (inner (op_of op)) depth (rest tokens.now at) e) }
     ensures forward { IfOk result (λ r. at < r.1) }
@@ -224,7 +263,13 @@ fn tighter<'s>(alloc: Global, op: Operator, tokens: &[Token<'s>], at: usize, dep
 
 /// The operands behind the first.
 #[cycle(reader)]
-pub fn operands<'s>(alloc: Global, op: Operator, tokens: &[Token<'s>], at: usize, depth: u32) -> Result<(Items<RawTerm<'s>>, usize), Stop>
+pub fn operands<'s>(
+    alloc: Global,
+    op: Operator,
+    tokens: &[Token<'s>],
+    at: usize,
+    depth: u32,
+) -> Result<(Items<RawTerm<'s>>, usize), Stop>
     requires { depth ≤ 256 }
     ensures answer { MatchResult result (λ r. TookOperands (op_of op) depth (rest tokens.now at) (rest tokens.now r.1) (forms_of (map form_of r.0))) (λ e. Stops (OperandsItem (op_of op)) depth (rest tokens.now at) e) }
     ensures forward { IfOk result (λ r. at ≤ r.1) }
@@ -240,7 +285,12 @@ pub fn operands<'s>(alloc: Global, op: Operator, tokens: &[Token<'s>], at: usize
 }
 
 /// A chain of these operands.
-pub fn chained<'s>(alloc: Global, op: Operator, first: RawTerm<'s>, others: Items<RawTerm<'s>>) -> Result<RawTerm<'s>, Stop>
+pub fn chained<'s>(
+    alloc: Global,
+    op: Operator,
+    first: RawTerm<'s>,
+    others: Items<RawTerm<'s>>,
+) -> Result<RawTerm<'s>, Stop>
     ensures { MatchResult result (λ x. form_of x ≡ chain_of (op_of op) (form_of first.entry) (forms_of (map form_of others.entry))) (λ e. e ≡ stop.Memory) }
 {
     if others.is_empty() {

@@ -1,6 +1,5 @@
-use Rattle.std.proofs.Common.{◌<◌, arith}
+use Rattle.std.proofs.Common.{arith}
 use Rattle.std.proofs.lemmas.Result.{err_from_is_err_and, IfOk-weaker}
-use Rattle.cb_model.specs.Forms.{form_of}
 use Rattle.cb_lex.specs.View.{token_of}
 use Rattle.cb_syntax.specs.Steps.{rest}
 use Rattle.cb_syntax.proofs.Folds.{match_map}

@@ -1,4 +1,4 @@
-use Rattle.std.proofs.Common.{◌∷◌, [], ap, map, refl}
+use Rattle.std.proofs.Common.{◌∷◌, [], map, refl}
 use Rattle.std.proofs.lemmas.Result.{err_from_is_err_and}
 use Rattle.cb_model.specs.Forms.{query_form}
 use Rattle.cb_model.specs.Grammar.{FormQuery, ReadsQuery}

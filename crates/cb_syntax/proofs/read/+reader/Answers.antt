@@ -1,4 +1,4 @@
-use Rattle.std.proofs.Common.{◌≡◌, ◌<◌, ◌≤◌, ◌+◌, length, subst, sym, ◌∙◌, ap, map, arith, rules, refl, inl, inr}
+use Rattle.std.proofs.Common.{◌<◌, ◌≤◌, ◌+◌, length, subst, ◌∙◌, ap, map, arith, rules}
 use Rattle.std.proofs.lemmas.Result.{err_from_is_err_and}
 use Rattle.cb_model.specs.Forms.{form_of, forms_of}
 use Rattle.cb_lex.specs.View.{token_of}
@@ -72,7 +72,7 @@ pub operand-returns-in-Variable-clause-answer : goal.operand-returns-in-Variable
 operand-returns-in-Variable-clause-answer t c = operand_form _ _ _ _ _ (form_variable c.in-Some.first.text) (operand_variable _ _ _ _ _ (token_of c.in-Some.first) (c.in-Some.ensures) c.in-Variable.is c.requires)
 
 pub operand-returns-in-Integer-clause-answer : goal.operand-returns-in-Integer-clause-answer
-operand-returns-in-Integer-clause-answer t c = 
+operand-returns-in-Integer-clause-answer t c =
     let fits : FitsSigned w64 c.in-Integer.value = search rules in
     operand_form _ _ _ _ _ (ap (λ z. form_of (raw.Integer z)) (to_z-of_z w64 c.in-Integer.value fits) ∙ form_integer c.in-Integer.value) (operand_integer _ _ _ _ _ (token_of c.in-Some.first) (c.in-Some.ensures) c.in-Integer.value c.in-Integer.is c.requires)
 
@@ -113,7 +113,7 @@ operands-loop-alloc-preserved t c = record {
 }
 
 pub operands-returns-clause-answer : goal.operands-returns-clause-answer
-operands-returns-clause-answer t c = 
+operands-returns-clause-answer t c =
     operands_end (op_of c.args.op) _ _ _ _ c.loop-alloc.invariant.so_far (subst (λ k. NoKind k (rest c.args.tokens.now c.loop-alloc.left)) c.kind.ensures c.loop-alloc-test.ensures)
 
 pub terms-returns-then-not-stands-clause-answer : goal.terms-returns-then-not-stands-clause-answer

@@ -1,4 +1,4 @@
-use Rattle.std.proofs.Common.{◌≡◌, ◌<◌, ◌≤◌, length, ◌+◌, ℕ, ◌-◌, ◌*◌, map}
+use Rattle.std.proofs.Common.{◌≤◌, length, ◌+◌, ◌-◌, ◌*◌, map}
 use Rattle.cb_model.specs.Forms.{form_of}
 use Rattle.cb_syntax.specs.Steps.{rest, op_of, levels}
 use Rattle.cb_syntax.proofs.Moves.{TermsSoFar, OperandsSoFar}

@@ -2,7 +2,6 @@ use Rattle.std.specs.Prelude.{is_ok}
 use Rattle.std.proofs.Common.{◌≡◌, ◌++◌, ◌∷◌, [], true, sym, ◌∙◌, arith}
 use Rattle.cb_lex.specs.View.{tokens_of}
 use Rattle.cb_syntax.proofs.Listing.{one_more, one_part, span_of, at_fault, at_end}
-use Rattle.cb_syntax.proofs.Whole.{stopped, whole}
 use Rattle.cb_syntax.proofs.token_list.tokens.Goals as goal
 
 pub loop-next-preserved : goal.loop-next-preserved
