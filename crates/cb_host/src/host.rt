@@ -1,8 +1,9 @@
 //! Files, input and output of the system, over std's. Nothing is known of the bytes that these give or take: what stands
 //! here is the part of the program that its proofs trust.
 
-ghost use Rattle.std.specs.Prelude.{◌≡◌, ◌<◌, ◌≤◌, [], None, length, drop, is_err, if◌then◌else◌, IfOk, OnErr};
-ghost use Rattle.cb_host.specs.Host.{HasLength, is_failed};
+ghost use Rattle.std.specs.Prelude.{◌≡◌, ◌<◌, ◌≤◌, [], None, length, drop, is_err, if◌then◌else◌, IfOk, IfSome, OnErr};
+ghost use Rattle.std.specs.Io.KnownBytes.{ReadConsumes};
+ghost use Rattle.cb_host.specs.Host.{HasLength, Loads, is_failed};
 ghost use Rattle.cb_host.specs.Fakes.{next_number};
 
 use crate::{Failed, Files, Load, Sink, Source};
@@ -42,6 +43,7 @@ fn read_front<R: Read>(reader: &mut R, into: &mut Vec<u8>, limit: usize) -> Load
     requires empty { into.old.items ≡ [] }
     requires limit { limit ≤ 4294967295 }
     ensures length { HasLength limit result into.new.items }
+    ensures bytes { IfSome (R.remaining reader.old) (λ bytes. Loads bytes limit result into.new.items) }
 {
     let mut chunk = [0; CHUNK];
     while into.len() <= limit {
@@ -84,6 +86,23 @@ impl<R: rt::Files> Files for HostFiles<R> {
     }
 }
 
+// Reads once. The reader may write past the bytes that it gives, so it gets a buffer of its own.
+fn read_some<R: Read>(reader: &mut R, buf: &mut [u8]) -> Result<usize, Failed>
+    requires room { 0 < length buf.old }
+    ensures within { IfOk result (λ n. n ≤ length buf.old) }
+    ensures bytes { ReadConsumes (R.remaining reader.old) (R.remaining reader.new) result buf.new }
+    ensures rest { IfOk result (λ n. drop n buf.new ≡ drop n buf.old) }
+    ensures buffer_kept { OnErr result (buf.new ≡ buf.old) }
+{
+    let mut chunk = [0; CHUNK];
+    let most = CHUNK.min(buf.len());
+    let Ok(n) = reader.read(&mut chunk[..most]) else {
+        return Err(Failed);
+    };
+    buf[..n].copy_from_slice(&chunk[..n]);
+    Ok(n)
+}
+
 /// The input of the system, or another of std's readers.
 #[derive(Drop)]
 pub struct HostInput<R> {
@@ -121,15 +140,11 @@ impl<R: Read> Source for HostInput<R> {
         ensures counted { self.new ≡ (if is_err result then next_number self.old else self.old) }
         ensures count { self.old ≤ self.new }
     {
-        // std may write past the bytes that it gives, so it gets a buffer of its own.
-        let mut chunk = [0; CHUNK];
-        let most = CHUNK.min(buf.len());
-        let Ok(n) = self.reader.read(&mut chunk[..most]) else {
+        let result = read_some(&mut self.reader, buf);
+        if result.is_err() {
             self.faults = self.faults.saturating_add(1);
-            return Err(Failed);
-        };
-        buf[..n].copy_from_slice(&chunk[..n]);
-        Ok(n)
+        }
+        result
     }
 }
 

@@ -5,11 +5,10 @@ ghost use Rattle.std.specs.Prelude.{◌≡◌, ℕ, ◌<◌, ◌≤◌, List, []
 ghost use Rattle.cb_model.specs.Outside.{Rose, Wrote, bytes_named};
 ghost use Rattle.cb_host.specs.Host.{IfTold, HasLength, Loads, Reads};
 
-use thiserror::Error;
-
 pub use host::{HostFiles, HostInput, HostOutput};
 pub use memory::{MemFiles, MemSink, MemSource};
 pub use sure::{SureFiles, SureSink, SureSource};
+use thiserror::Error;
 
 mod host;
 mod memory;

@@ -1,20 +1,29 @@
 -- What is built so far of what the program prints: `verify` on files in the first form.
-use Rattle.std.specs.Prelude.{◌≡◌, ◌<◌, ◌≤◌, List, [], length, Option, Some, None, codes}
+use Rattle.std.specs.Prelude.{◌≡◌, ℕ, ◌+◌, ◌<◌, ◌≤◌, List, [], ◌++◌, map, sum, length, Option, Some, None, codes}
 use Rattle.cb_model.specs.declared.Outcome.{Outcome}
 use Rattle.cb_model.specs.Text.{Text, name_text, lines_text, IsPrefix}
 use Rattle.cb_model.specs.Circuits.{Module, flat, circuit_of, BySpec}
 use Rattle.cb_model.specs.FirstForm.{PairSpec, FirstForm, pair_exprs}
-use Rattle.cb_model.specs.Commands.{Command, Check, Run, Verify, Same, Make, Nodes, IsNumber, command_of, file_name}
+use Rattle.cb_model.specs.Commands.{Command, Check, Run, Verify, Same, Make, Nodes, command_of, file_name}
 use Rattle.cb_model.specs.Refusals.{Refuses, usage, file_too_long, unbuilt}
 use Rattle.cb_model.specs.Verdicts.{Compared}
+use Rattle.cb_model.specs.declared.Expr.{Expr}
+use Rattle.cb_model.specs.Room.{room_v, circuit_pins, instance_pins, expr_size}
+use Rattle.cb_model.specs.Output.{BelowNodes}
 use Rattle.cb_model.specs.Outside.{bytes_named}
 
--- the lines and the outcome of `verify` over the bytes of its file; it may stop for nodes under any number
+-- the nodes with which the comparison of a flat module with expressions is always decided
+abbrev pub flat_room : Module → List Expr → ℕ
+flat_room m es =
+    let c = circuit_of (flat [] m) in
+    room_v (circuit_pins c + instance_pins m) (sum (map expr_size es)) (length c.outputs) c.inputs
+
+-- the lines and the outcome of `verify` over the bytes of its file; it may stop for nodes where their number is below that
 pub data VerifySays (file name : Text) (nodes : Nodes) (lines : List Text) (outcome : Outcome) : Type 0 where
   too_long : 4194304 < length file → Refuses file_too_long lines outcome → VerifySays file name nodes lines outcome
   not_first : length file ≤ 4194304 → ((m : Module) (s : PairSpec) → FirstForm file name m s → ⊥) → Refuses unbuilt lines outcome → VerifySays file name nodes lines outcome
   compared : (m : Module) (s : PairSpec) → length file ≤ 4194304 → FirstForm file name m s →
-      Compared (name_text name) (codes "verified ") m.inputs (circuit_of (flat [] m)) (BySpec (pair_exprs s)) (IsNumber nodes) lines outcome → VerifySays file name nodes lines outcome
+      Compared (name_text name) (codes "verified ") m.inputs (circuit_of (flat [] m)) (BySpec (pair_exprs s)) (BelowNodes nodes (flat_room m (pair_exprs s))) lines outcome → VerifySays file name nodes lines outcome
 
 -- what a command says over the bytes of its file
 abbrev pub CommandSays : Option Command → Text → List Text → Outcome → Type 0

@@ -8,18 +8,18 @@ use Rattle.cb_dd.proofs.Diagrams.{function_of-zero, function_of-one}
 use Rattle.cb_ops.specs.Ops.{Agree, DependsOn, DependAll, StandsFor, IsIte, Room, HasCause, Grows}
 use Rattle.cb_ops.proofs.Ite.{choose, grown-depends, grown-function}
 
-depends-zero : (ts : List Triple) (ls : List ℕ) → DependsOn ts 0 ls
+pub depends-zero : (ts : List Triple) (ls : List ℕ) → DependsOn ts 0 ls
 depends-zero ts ls = record { agrees = λ a b h. function_of-zero ts a ∙ sym (function_of-zero ts b) }
 
-depends-one : (ts : List Triple) (ls : List ℕ) → DependsOn ts 1 ls
+pub depends-one : (ts : List Triple) (ls : List ℕ) → DependsOn ts 1 ls
 depends-one ts ls = record { agrees = λ a b h. function_of-one ts a ∙ sym (function_of-one ts b) }
 
 -- the same bounds, where the second nodes' levels serve for the first
 module _ (ns ms : List ℕ) (times : ℕ) (s v : Store) (serves : (ls : List ℕ) → DependAll s.triples ms ls → DependAll s.triples ns ls) where
-  room-of : Room ns times s v → Room ms times s v
+  pub room-of : Room ns times s v → Room ms times s v
   room-of r = record { most = λ ls d. r.most ls (serves ls d) }
 
-  cause-of : HasCause ns times s v → HasCause ms times s v
+  pub cause-of : HasCause ns times s v → HasCause ms times s v
   cause-of h = record { rose = h.rose; below = λ ls d. h.below ls (serves ls d) }
 
 not-if : (x : Bool) → (if x then false else true) ≡ not x
@@ -120,7 +120,3 @@ module _ (s t v : Store) (st : Grows s t) (f g other : ℕ) (wf : IsNode s.tripl
         let n = second.most ls (grown-depends s t st f ls wf d.0, (depends-not ls negated d.1.0, (grown-depends s t st g ls wg d.1.0, tt))) in
         omega arith;
   }
-
--- fewer than two for each row, where the second call was not made
-pub half-room : (s t : Store) (f g : ℕ) → Room (g ∷ []) 1 s t → Room (f ∷ g ∷ []) 2 s t
-half-room s t f g first = record { most = λ ls d. let m = first.most ls (d.1.0, tt) in let p : 0 < 2 ^ length ls = pow_pos (length ls) in omega arith }

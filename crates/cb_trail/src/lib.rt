@@ -1,0 +1,81 @@
+//! An undo list: what was pushed last is taken back first (the trail of Warren's abstract machine, 1983).
+#![tactic(auto)]
+
+ghost use Rattle.std.specs.Prelude.{◌≡◌, ◌<◌, ◌≤◌, ◌↔◌, [], ◌∷◌, ◌++◌, length, IsSome, IfSome, IfNone, OnOk, OnErr, IfErr};
+
+use std::alloc::{AllocError, Global};
+use std::marker::Model;
+
+/// The changes that were made, in the order in which they were made.
+#[derive(Drop)]
+pub struct Trail<T> {
+    items: Vec<T>,
+}
+
+impl<T> Model for Trail<T> {
+    ghost use Rattle.std.specs.Prelude.{List};
+
+    ghost Value = { List T };
+
+    ghost view = { λ t. t.items.items };
+}
+
+impl<T> Trail<T> {
+    /// No changes yet. It takes no memory.
+    pub fn new(alloc: Global) -> Trail<T>
+        ensures { result ≡ [] }
+    {
+        Trail {
+            items: Vec::new(alloc),
+        }
+    }
+
+    /// Adds a change. Where there is no memory for it, it is handed back.
+    pub fn push(&mut self, item: T) -> Result<(), (AllocError, T)>
+        ensures ok { OnOk result (self.new ≡ self.old ++ item ∷ []) }
+        ensures refused { OnErr result (self.new ≡ self.old) }
+        ensures handed_back { IfErr result (λ e. e.1 ≡ item) }
+    {
+        match self.items.push(item) {
+            Ok(()) => Ok(()),
+            Err(failed) => Err((AllocError, failed.value)),
+        }
+    }
+
+    /// How many changes there are: what a later `undo_next` goes back to.
+    pub fn mark(&self) -> u64
+        ensures { result ≡ length self.now }
+    {
+        self.items.len() as u64
+    }
+
+    /// Takes back the newest change that was made past the mark, if there is one.
+    pub fn undo_next(&mut self, to: u64) -> Option<T>
+        ensures some { IsSome result ↔ (to < length self.old) }
+        ensures newest { IfSome result (λ item. self.old ≡ self.new ++ item ∷ []) }
+        ensures none { IfNone result (self.new ≡ self.old) }
+    {
+        if self.items.len() as u64 <= to {
+            return None;
+        }
+        self.items.pop()
+    }
+}
+
+#[cfg(test)]
+mod tests {
+    use super::*;
+    use std::test::Fail;
+
+    #[test]
+    fn takes_back_the_newest_first(rt: HostRuntime) -> Result<(), Fail> {
+        let mut trail: Trail<u32> = Trail::new(rt.alloc());
+        let start = trail.mark();
+        assert_eq!(rt; trail.push(7).is_ok(), true);
+        assert_eq!(rt; trail.push(8).is_ok(), true);
+        assert_eq!(rt; trail.undo_next(start), Some(8));
+        assert_eq!(rt; trail.undo_next(start), Some(7));
+        assert_eq!(rt; trail.undo_next(start), None);
+        Ok(())
+    }
+}
