@@ -1,1 +1,11 @@
 pub mod Listing
+pub mod Parts
+pub mod Back
+pub mod Fore
+pub mod Stack
+pub mod Run
+pub mod Whole
+pub mod Moves
+pub mod Folds
+pub mod GoalMoves
+pub mod ClauseMoves

@@ -1,1 +1,5 @@
 pub mod TokenList
+pub mod Machine
+pub mod Answers
+pub mod Steps
+pub mod Pieces

@@ -1,0 +1,75 @@
+-- The forms of written terms, by their constructors.
+use Rattle.std.specs.Prelude.{MatchResult}
+use Rattle.std.proofs.Common.{◌≡◌, Bor, ℕ, List, [], ◌∷◌, ◌++◌, ◌∙◌, map, Some, None, Result, Ok, Err, sym, refl, ap}
+use Rattle.std.proofs.lemmas.List.{map-append}
+use Rattle.cb_model.specs.declared.RawTerm.{RawTerm}
+use Rattle.cb_model.specs.declared.RawTerm.TheVariants as raw
+use Rattle.cb_model.specs.declared.RawTerm.TheOpen.{RawTerm-F}
+use Rattle.cb_model.specs.declared.RawTerm.TheFolds.{fold-RawTerm, fold-roll-RawTerm}
+use Rattle.cb_model.specs.Grammar.{Op, Plus, Hash, Star, Form, Variable, Integer, Name, Closed, Open, Not, And, Xor, Or, Last, chain}
+use Rattle.cb_model.specs.Forms.{form_of, forms_of, form_step}
+use Rattle.cb_syntax.specs.Steps.{joined_form}
+
+pub form_and : (xs : List RawTerm) → form_of (raw.And xs) ≡ And (forms_of (map form_of xs))
+form_and xs = ap (fold-RawTerm Form form_step) (sym (raw.rolls-And xs)) ∙ fold-roll-RawTerm Form form_step (RawTerm-F.And xs)
+
+pub form_xor : (xs : List RawTerm) → form_of (raw.Xor xs) ≡ Xor (forms_of (map form_of xs))
+form_xor xs = ap (fold-RawTerm Form form_step) (sym (raw.rolls-Xor xs)) ∙ fold-roll-RawTerm Form form_step (RawTerm-F.Xor xs)
+
+pub form_or : (xs : List RawTerm) → form_of (raw.Or xs) ≡ Or (forms_of (map form_of xs))
+form_or xs = ap (fold-RawTerm Form form_step) (sym (raw.rolls-Or xs)) ∙ fold-roll-RawTerm Form form_step (RawTerm-F.Or xs)
+
+pub form_not : (x : RawTerm) → form_of (raw.Not x) ≡ Not (form_of x)
+form_not x = ap (fold-RawTerm Form form_step) (sym (raw.rolls-Not x)) ∙ fold-roll-RawTerm Form form_step (RawTerm-F.Not x)
+
+pub form_variable : (x : Bor (List ℕ)) → form_of (raw.Variable x) ≡ Variable x.now
+form_variable x = ap (fold-RawTerm Form form_step) (sym (raw.rolls-Variable x)) ∙ fold-roll-RawTerm Form form_step (RawTerm-F.Variable x)
+
+pub form_integer : (z : _) → form_of (raw.Integer z) ≡ Integer z
+form_integer z = ap (fold-RawTerm Form form_step) (sym (raw.rolls-Integer z)) ∙ fold-roll-RawTerm Form form_step (RawTerm-F.Integer z)
+
+pub form_closed : (xs : List RawTerm) → form_of (raw.List xs None) ≡ Closed (forms_of (map form_of xs))
+form_closed xs = ap (fold-RawTerm Form form_step) (sym (raw.rolls-List xs None)) ∙ fold-roll-RawTerm Form form_step (RawTerm-F.List xs None)
+
+pub form_open : (xs : List RawTerm) (y : RawTerm) → form_of (raw.List xs (Some y)) ≡ Open (forms_of (map form_of xs)) (form_of y)
+form_open xs y = ap (fold-RawTerm Form form_step) (sym (raw.rolls-List xs (Some y))) ∙ fold-roll-RawTerm Form form_step (RawTerm-F.List xs (Some y))
+
+form_name : (x : Bor (List ℕ)) (xs : List RawTerm) → form_of (raw.Name x xs) ≡ Name x.now (forms_of (map form_of xs))
+form_name x xs = ap (fold-RawTerm Form form_step) (sym (raw.rolls-Name x xs)) ∙ fold-roll-RawTerm Form form_step (RawTerm-F.Name x xs)
+
+pub name_with : (x : Bor (List ℕ)) (xs : List RawTerm) (n : List ℕ) → x.now ≡ n → form_of (raw.Name x xs) ≡ Name n (forms_of (map form_of xs))
+name_with x xs n e = form_name x xs ∙ ap (λ (m : List ℕ). Name m (forms_of (map form_of xs))) e
+
+pub name_none : (x : Bor (List ℕ)) (xs : List RawTerm) (n : List ℕ) → x.now ≡ n → xs ≡ [] → form_of (raw.Name x xs) ≡ Name n Last
+name_none x xs n e h = name_with x xs n e ∙ ap (λ (ys : List RawTerm). Name n (forms_of (map form_of ys))) h
+
+pub list_none : (xs : List RawTerm) → xs ≡ [] → form_of (raw.List xs None) ≡ Closed Last
+list_none xs h = form_closed xs ∙ ap (λ (ys : List RawTerm). Closed (forms_of (map form_of ys))) h
+
+pub list_tail : (xs : List RawTerm) (y z : RawTerm) → y ≡ z → form_of (raw.List xs (Some y)) ≡ Open (forms_of (map form_of xs)) (form_of z)
+list_tail xs y z h = form_open xs y ∙ ap (λ (v : RawTerm). Open (forms_of (map form_of xs)) (form_of v)) h
+
+pub not_of : (y z : RawTerm) → y ≡ z → form_of (raw.Not y) ≡ Not (form_of z)
+not_of y z h = form_not y ∙ ap (λ (v : RawTerm). Not (form_of v)) h
+
+pub pushed : (xs ys : List RawTerm) (x : RawTerm) → ys ≡ xs ++ x ∷ [] → map form_of ys ≡ map form_of xs ++ form_of x ∷ []
+pushed xs ys x e = ap (map form_of) e ∙ map-append form_of xs (x ∷ [])
+
+pub match_map : {A E : Type 0} (r : Result A E) (P Q : A → Type 0) (S T : E → Type 0) → MatchResult r P S → ((a : A) → P a → Q a) → ((e : E) → S e → T e) → MatchResult r Q T
+match_map (Ok a) P Q S T m f g = f a m
+match_map (Err e) P Q S T m f g = g e m
+
+joined_chain : (op : Op) (x y : Form) (fs : List Form) → joined_form op (forms_of (x ∷ y ∷ fs)) ≡ chain op x (forms_of (y ∷ fs))
+joined_chain Plus x y fs = refl
+joined_chain Hash x y fs = refl
+joined_chain Star x y fs = refl
+
+pub chain_built : (op : Op) (x : RawTerm) (xs none one all : List RawTerm) (z : RawTerm) → (xs ≡ [] → ⊥) → none ≡ [] → one ≡ none ++ x ∷ [] → all ≡ one ++ xs →
+    form_of z ≡ joined_form op (forms_of (map form_of all)) → form_of z ≡ chain op (form_of x) (forms_of (map form_of xs))
+chain_built op x [] none one all z n a b c h = absurd (n refl)
+chain_built op x (y ∷ ys) none one all z n a b c h =
+    h ∙ ap (λ (l : List RawTerm). joined_form op (forms_of (map form_of l))) (c ∙ ap (λ (l : List RawTerm). l ++ y ∷ ys) (b ∙ ap (λ (l : List RawTerm). l ++ x ∷ []) a))
+    ∙ joined_chain op (form_of x) (form_of y) (map form_of ys)
+
+pub pushed_by : {A B : Type 0} (f : A → B) (xs ys : List A) (x : A) → ys ≡ xs ++ x ∷ [] → map f ys ≡ map f xs ++ f x ∷ []
+pushed_by f xs ys x e = ap (map f) e ∙ map-append f xs (x ∷ [])
