@@ -12,3 +12,5 @@ pub mod OneReading
 pub mod OpenTrees
 pub mod OneShape
 pub mod OneLine
+pub mod WrittenForm
+pub mod LineOfTokens

@@ -1,17 +1,13 @@
 -- Since the shape is one, so are the bound and the line of a branch.
-use Rattle.std.proofs.Common.{◌≡◌, ℕ, suc, ◌+◌, ◌*◌, ◌^◌, ◌<◌, ◌≤◌, Bool, true, false, not, List, [], ◌∷◌, ◌++◌, map, length, refl, sym, ◌∙◌, ap, subst, inl, inr, arith}
-use Rattle.std.proofs.Math.Nat.{pow-le-pow_left, pow-le-pow_right, mul-le-mul_left, le-max_right, le-max_left, max-le, le_trans}
+use Rattle.std.proofs.Common.{◌≡◌, ℕ, ◌+◌, ◌*◌, ◌^◌, ◌<◌, ◌≤◌, Bool, true, false, List, [], ◌∷◌, ◌++◌, map, length, refl, sym, ◌∙◌, ap, subst, inl, inr, arith}
+use Rattle.std.proofs.Math.Nat.{pow-le-pow_left, pow-le-pow_right, mul-le-mul_left, le-max_right, max-le}
 use Rattle.std.proofs.lemmas.Nat.{mul-le}
 use Rattle.std.specs.Prelude.{max, flat_map}
-use Rattle.cb_model.specs.declared.Tree.{Tree}
 use Rattle.cb_model.specs.Bits.{Bits}
-use Rattle.cb_model.specs.Text.{Text}
-use Rattle.cb_model.specs.Values.{World}
-use Rattle.cb_model.specs.Equations.{Item, Solvable, Refuted}
 use Rattle.cb_model.specs.Program.{Program, bools}
 use Rattle.cb_model.specs.Derivation.{Branch}
-use Rattle.cb_model.specs.Answers.{leaves, IsShape, Gives, Gen, Picks}
-use Rattle.cb_model.specs.Line.{Names, printed_terms, is_wide, line_text, parameters, AreGen, IsLine, wide, told}
+use Rattle.cb_model.specs.Answers.{leaves, Gives, Gen, Picks}
+use Rattle.cb_model.specs.Line.{printed_terms, is_wide, line_text, parameters, AreGen, wide, told}
 use Rattle.cb_model.specs.Room.{room, room_with, branch_size, widest, BelowRoom}
 use Rattle.cb_laws.specs.Laws.{RoomIsOne, RoomOfNone, LineIsOne}
 use Rattle.cb_laws.proofs.OneShape.{shape_is_one}

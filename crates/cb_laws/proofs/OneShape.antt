@@ -1,5 +1,5 @@
 -- The shape of terms under solvable equations is one.
-use Rattle.std.proofs.Common.{◌≡◌, ℕ, zero, suc, ◌+◌, ◌<◌, ◌≤◌, Bool, true, false, ◌==◌, if◌then◌else◌, List, [], ◌∷◌, ◌++◌, map, length, get_or, refl, sym, ◌∙◌, ap, subst, inl, inr, arith, rules, pos, ℤ, append_assoc, length-append}
+use Rattle.std.proofs.Common.{◌≡◌, ℕ, zero, suc, ◌+◌, ◌≤◌, Bool, true, false, ◌==◌, if◌then◌else◌, List, [], ◌∷◌, ◌++◌, map, length, get_or, refl, sym, ◌∙◌, ap, subst, inl, inr, arith, rules, pos, ℤ, length-append}
 use Rattle.std.proofs.lemmas.List.{length-map}
 use Rattle.std.specs.Prelude.{Option, Some, None, is_some, slice_get, FitsSigned, flat_map}
 use Rattle.std.specs.Int.{w64}
@@ -7,8 +7,8 @@ use Rattle.cb_model.specs.declared.Sort.{Sort}
 use Rattle.cb_model.specs.declared.Sort.TheVariants as sort
 use Rattle.cb_model.specs.declared.Tree.{Tree}
 use Rattle.cb_model.specs.Bits.{Bits, numbers}
-use Rattle.cb_model.specs.Values.{Ground, Bit, Word, Int, Name, Grounds, Last, More, grounds, World, Valuation, IsValuation, Fits, tail_of, tree_value}
-use Rattle.cb_model.specs.Equations.{Item, Meets, Solvable, SolvedAt}
+use Rattle.cb_model.specs.Values.{Ground, Bit, Word, Int, Name, Grounds, Last, More, grounds, World, Valuation, IsValuation, Fits, tail_of}
+use Rattle.cb_model.specs.Equations.{Item, Meets, SolvedAt}
 use Rattle.cb_model.specs.Answers.{IsShape, InOrder, leaves, opens, with_opens, values}
 use Rattle.cb_laws.specs.Laws.{ShapeIsOne}
 use Rattle.cb_laws.proofs.Tables.{zero_fits}

@@ -1,5 +1,5 @@
 -- Open trees as a type of their own: what a shape reads of its terms, by recursion.
-use Rattle.std.proofs.Common.{◌≡◌, ℕ, Bool, true, false, ◌&&◌, List, [], ◌∷◌, ◌++◌, map, refl, sym, ◌∙◌, ap, subst, ℤ}
+use Rattle.std.proofs.Common.{◌≡◌, ℕ, Bool, true, List, [], ◌∷◌, ◌++◌, map, refl, sym, ◌∙◌, ap, subst, ℤ}
 use Rattle.std.specs.Prelude.{Option, option_to_list, flat_map}
 use Rattle.std.specs.List.{list_all}
 use Rattle.cb_model.specs.declared.Sort.{Sort}
@@ -16,7 +16,7 @@ use Rattle.cb_model.specs.declared.Tree.TheViews.{roll-Tree}
 use Rattle.cb_model.specs.declared.Tree.TheFolds.{fold-roll-Tree, ind-Tree, map-Tree}
 use Rattle.cb_model.specs.Bits.{Bits}
 use Rattle.cb_model.specs.Values.{Ground, Bit, Word, Int, Name, Grounds, Last, More, grounds, Valuation, tail_of, expr_value, tree_value}
-use Rattle.cb_model.specs.Answers.{leaf_number, leaf_number_step, leaves, leaves_step, opens, opens_step, is_leaf, is_leaf_step, is_open, is_open_step}
+use Rattle.cb_model.specs.Answers.{leaf_number, leaves, leaves_step, opens, opens_step, is_leaf, is_leaf_step, is_open, is_open_step}
 use Rattle.cb_laws.proofs.Values.{value-leaf, value-bus, value-term, value-int, value-node, value-var}
 use Rattle.cb_laws.proofs.Shapes.{number-var, leaves-leaf, leaves-bus, leaves-term, leaves-node, opens-leaf, opens-bus, opens-term, opens-node}
 use Rattle.cb_laws.proofs.Decided.{and_true}

@@ -15,8 +15,9 @@ use Rattle.cb_model.specs.Derivation.{Ready, Entry, Branch, Step, Query, Note, E
 use Rattle.cb_model.specs.Answers.{leaves, IsShape, Gives, Denotes}
 use Rattle.cb_model.specs.Line.{Names, printed_terms, IsLine}
 use Rattle.cb_model.specs.Room.{room_with, BelowRoom}
-use Rattle.cb_model.specs.Tokens.{Token}
-use Rattle.cb_model.specs.Grammar.{FormClause, FormQuery, ReadsClause, ReadsQuery, ReadsAll}
+use Rattle.cb_model.specs.Tokens.{Token, Fault, Lexes, line_at}
+use Rattle.cb_model.specs.Written.{AreClauses, AreQueries}
+use Rattle.cb_model.specs.Grammar.{IsReading, Whole, FormClause, FormQuery, ReadsClause, ReadsQuery, ReadsAll}
 
 -- ---- Boolean pairs
 
@@ -114,3 +115,13 @@ ClausesAreOne = (ts : List Token) (xs ys : List FormClause) → ReadsAll ReadsCl
 -- and as one list of queries at most
 abbrev pub QueriesAreOne : Type 0
 QueriesAreOne = (ts : List Token) (xs ys : List FormQuery) → ReadsAll ReadsQuery ts xs → ReadsAll ReadsQuery ts ys → xs ≡ ys
+
+-- what the grammar reads is in its form, and no longer than the text
+abbrev pub ReadingIsWritten : Type 0
+ReadingIsWritten = (source : Text) →
+    ((cs : List FormClause) → IsReading ReadsClause source (Whole cs) → AreClauses (length source) cs) ×
+    ((qs : List FormQuery) → IsReading ReadsQuery source (Whole qs) → AreQueries (length source) qs)
+
+-- each token's line is that of its first byte
+abbrev pub TokenLines : Type 0
+TokenLines = (source : Text) (ts : List Token) (f : Option Fault) → Lexes 0 1 source ts f → Each (λ t. t.line ≡ line_at source t.start) ts

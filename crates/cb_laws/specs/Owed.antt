@@ -4,7 +4,6 @@ use Rattle.std.specs.List.{list_all}
 use Rattle.cb_model.specs.declared.Tree.{Tree}
 use Rattle.cb_model.specs.declared.Goal.{Goal}
 use Rattle.cb_model.specs.declared.Outcome.{Outcome}
-use Rattle.cb_model.specs.Bits.{Each}
 use Rattle.cb_model.specs.Text.{Text, IsPrefix}
 use Rattle.cb_model.specs.Values.{World}
 use Rattle.cb_model.specs.Circuits.{Consistent, Module, Flat, circuit_of, flat_named, Agrees, BySpec}
@@ -12,9 +11,7 @@ use Rattle.cb_model.specs.Equations.{Item, Solvable, Refuted, Substitution, Read
 use Rattle.cb_model.specs.Program.{Program}
 use Rattle.cb_model.specs.Derivation.{Ready}
 use Rattle.cb_model.specs.Answers.{IsShape}
-use Rattle.cb_model.specs.Tokens.{Token, Fault, Lexes, line_at}
-use Rattle.cb_model.specs.Grammar.{FormClause, FormQuery, ReadsClause, ReadsQuery, IsReading, Whole}
-use Rattle.cb_model.specs.Written.{AreClauses, AreQueries}
+use Rattle.cb_model.specs.Grammar.{FormClause}
 use Rattle.cb_model.specs.Facts.{FactRefusal, Circuits, FactsRead, no_circuits, Spec}
 use Rattle.cb_model.specs.Adder.{adder_text}
 use Rattle.cb_model.specs.Output.{Loaded, IsLoaded, module_named, spec_named, Output, OutputBegins}
@@ -38,16 +35,6 @@ ReadyDecided = (p : Program) (v : ℕ) (es : List Item) (g : Goal) → InScope p
 -- solvable equations have a shape for all terms
 abbrev pub HasShape : Type 0
 HasShape = (w : World) (c v : ℕ) (es : List Item) (terms : List Tree) → InScope c v es → Solvable w es → (shape : List Tree) × IsShape w es terms shape
-
--- each token's line is that of its first byte
-abbrev pub TokenLines : Type 0
-TokenLines = (source : Text) (ts : List Token) (f : Option Fault) → Lexes 0 1 source ts f → Each (λ t. t.line ≡ line_at source t.start) ts
-
--- what the grammar reads is in its form, and no longer than the text
-abbrev pub ReadingIsWritten : Type 0
-ReadingIsWritten = (source : Text) →
-    ((cs : List FormClause) → IsReading ReadsClause source (Whole cs) → AreClauses (length source) cs) ×
-    ((qs : List FormQuery) → IsReading ReadsQuery source (Whole qs) → AreQueries (length source) qs)
 
 -- the flattened circuit of an accepted module has exactly one consistent valuation for each input, whatever the order of its instances
 abbrev pub FlatHasOne : Type 0

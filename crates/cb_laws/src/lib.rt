@@ -1,7 +1,7 @@
 //! Laws of the definitions: each is the contract of a function that does nothing.
 #![tactic(auto)]
 
-ghost use Rattle.cb_laws.specs.Laws.{SolvableByTables, SolvableDecided, SolvableByTablesBelow, ReadyStays, StepDetermined, RunDetermined, FormDenotes, OneValuation, ShapeIsOne, LineIsOne, RoomIsOne, RoomOfNone, ClausesAreOne, QueriesAreOne};
+ghost use Rattle.cb_laws.specs.Laws.{SolvableByTables, SolvableDecided, SolvableByTablesBelow, ReadyStays, StepDetermined, RunDetermined, FormDenotes, OneValuation, ShapeIsOne, LineIsOne, RoomIsOne, RoomOfNone, TokenLines, ReadingIsWritten, ClausesAreOne, QueriesAreOne};
 
 /// Boolean equations are solvable exactly where they have a solution in the algebra (Boole).
 pub fn solvable_by_tables()
@@ -72,4 +72,14 @@ pub fn room_is_one()
 /// The bound of a branch without a solution is the formula without leaves.
 pub fn room_of_none()
     ensures { RoomOfNone }
+{}
+
+/// What a text is read as is in the grammar's form, and its clauses, goals and terms are each no more than its bytes.
+pub fn reading_is_written()
+    ensures { ReadingIsWritten }
+{}
+
+/// The line of each token is that of its first byte.
+pub fn token_lines()
+    ensures { TokenLines }
 {}

@@ -120,7 +120,3 @@ module _ (s t v : Store) (st : Grows s t) (f g other : ℕ) (wf : IsNode s.tripl
         let n = second.most ls (grown-depends s t st f ls wf d.0, (depends-not ls negated d.1.0, (grown-depends s t st g ls wg d.1.0, tt))) in
         omega arith;
   }
-
--- fewer than two for each row, where the second call was not made
-pub half-room : (s t : Store) (f g : ℕ) → Room (g ∷ []) 1 s t → Room (f ∷ g ∷ []) 2 s t
-half-room s t f g first = record { most = λ ls d. let m = first.most ls (d.1.0, tt) in let p : 0 < 2 ^ length ls = pow_pos (length ls) in omega arith }

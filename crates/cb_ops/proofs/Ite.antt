@@ -21,7 +21,7 @@ IteRoom s t f g h = Room (f ∷ g ∷ h ∷ []) 1 s t
 pub choose : (b : Bool) (x y z w : Bool) → x ≡ z → y ≡ w → (if b then x else y) ≡ (if b then z else w)
 choose b x y z w p q = λ j. if b then p j else q j
 
-choose-all : (b c x y z w : Bool) → b ≡ c → x ≡ z → y ≡ w → (if b then x else y) ≡ (if c then z else w)
+pub choose-all : (b c x y z w : Bool) → b ≡ c → x ≡ z → y ≡ w → (if b then x else y) ≡ (if c then z else w)
 choose-all b c x y z w o p q = λ j. if o j then p j else q j
 
 -- the bit that stands there already
@@ -41,7 +41,7 @@ pub put-other : (a : Bits) (l : ℕ) (b : Bool) (k : ℕ) → (k ≡ l → ⊥) 
 put-other a l b k h = ap (λ c. if c then b else a k) (ne_eqb k l h)
 
 -- a list of levels without one
-without : ℕ → List ℕ → List ℕ
+unfoldable pub without : ℕ → List ℕ → List ℕ
 without k [] = []
 without k (l ∷ ls) = if nat_eq l k then without k ls else l ∷ without k ls
 
@@ -76,7 +76,7 @@ without-le k (l ∷ ls) = elim (nat_eq l k) as (λ c. length (if c then without 
   | false ↦ omega (arith, without-le k ls)
 ]
 
-without-lt : (k : ℕ) (ls : List ℕ) → list_any (nat_eq k) ls ≡ true → length (without k ls) + 1 ≤ length ls
+pub without-lt : (k : ℕ) (ls : List ℕ) → list_any (nat_eq k) ls ≡ true → length (without k ls) + 1 ≤ length ls
 unfolding without
 without-lt k [] h = absurd (true≢false (sym h))
 without-lt k (l ∷ ls) h = elim (cases_Bool (nat_eq l k)) [
@@ -122,7 +122,7 @@ module _ (ts : List Triple) (is : IsDiagram ts) where
   ]
 
 -- a cofactor depends on the other levels
-cofactor-depends : (ts : List Triple) (n level : ℕ) (bit : Bool) (r : ℕ) (ls : List ℕ) → IsCofactor ts n level bit r → DependsOn ts n ls → DependsOn ts r (without level ls)
+pub cofactor-depends : (ts : List Triple) (n level : ℕ) (bit : Bool) (r : ℕ) (ls : List ℕ) → IsCofactor ts n level bit r → DependsOn ts n ls → DependsOn ts r (without level ls)
 cofactor-depends ts n level bit r ls c d = record {
   agrees = λ a b h. c.function a ∙ d.agrees (put level bit a) (put level bit b) (agree-put level ls a b bit h) ∙ sym (c.function b);
 }

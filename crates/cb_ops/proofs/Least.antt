@@ -125,9 +125,6 @@ pub record IsLeastSoFar (ts : List Triple) (f : ℕ) (levels : List ℕ) (i : �
   pub depends : DependsOn ts n (drop i levels)
   pub goes_on : (ys : List Bool) → IsLeastTrue ts n (drop i levels) ys → IsLeastTrue ts f levels (take i bits ++ ys)
 
-pub least-start : (ts : List Triple) (f : ℕ) (levels : List ℕ) (bits : List Bool) → IsNode ts f → f ≢ 0 → DependsOn ts f levels → IsLeastSoFar ts f levels 0 bits f
-least-start ts f levels bits w some d = record { node = w; some = some; depends = d; goes_on = λ ys h. h }
-
 module _ (ts : List Triple) (is : IsDiagram ts) (f : ℕ) (levels : List ℕ) (i : ℕ) (bits : List Bool) (n : ℕ) (rise : IsStrictlyIncreasing levels) (within : i < length levels) (so : IsLeastSoFar ts f levels i bits n) where
   split : drop i levels ≡ get_or levels i 0 ∷ drop (i + 1) levels
   split = drop_more levels i 0 within
@@ -174,16 +171,6 @@ zero-side ts n level at lo hi p e z =
       other = λ _ a. sym (p.lo_function a) ∙ ap (λ m. function_of ts m a) z ∙ function_of-zero ts a;
     } in
     let P : ℕ → Type 0 = λ l. IsLeastSide ts n l true hi in
-    subst P e side
-
-pub low-side : (ts : List Triple) (n level at lo hi : ℕ) → HasParts ts n at lo hi → at ≡ level → lo ≢ 0 → IsLeastSide ts n level false lo
-low-side ts n level at lo hi p e some =
-    let side : IsLeastSide ts n at false lo = record {
-      cofactor = record { node = p.lo_node; above = p.lo_below; function = p.lo_function };
-      some = some;
-      other = λ h a. absurd (cc);
-    } in
-    let P : ℕ → Type 0 = λ l. IsLeastSide ts n l false lo in
     subst P e side
 
 pub skip-side : (ts : List Triple) → IsDiagram ts → (n level : ℕ) → IsNode ts n → n ≢ 0 → level < level_of ts n → IsLeastSide ts n level false n

@@ -44,13 +44,6 @@ module _ {S : Type 0} (m n : IndexMap Call ℕ S) (bound wide : ℕ) (ts : List 
     right = λ c r at. answer-wide ts bound wide c r le (old.right c r (ap (lookup (call_eq c)) (sym same) ∙ at));
   }
 
-pub IsMemo-none : {S : Type 0} (m : IndexMap Call ℕ S) (bound : ℕ) (ts : List Triple) → IsDiagram ts → bound ≤ length ts + 2 → m.entries ≡ [] → IsMemo m bound ts
-IsMemo-none m bound ts is within none = record {
-  diagram = is;
-  within = within;
-  right = λ c r at. absurd (let e : None ≡ Some r = ap (lookup (call_eq c)) (sym none) ∙ at in cc);
-}
-
 choose : (b : Bool) (x y z w : Bool) → x ≡ z → y ≡ w → (if b then x else y) ≡ (if b then z else w)
 choose b x y z w p q = λ j. if b then p j else q j
 

@@ -16,7 +16,7 @@ use Rattle.cb_ops.proofs.Ite.{choose, put-same, put-other, put-id, essential, co
 use Rattle.cb_ops.proofs.Connectives.{depends-zero, room-of}
 
 -- bits put at two places, in either order
-put-swap : (k l : ℕ) (x y : Bool) (a : Bits) → (k ≡ l → ⊥) → put l y (put k x a) ≡ put k x (put l y a)
+pub put-swap : (k l : ℕ) (x y : Bool) (a : Bits) → (k ≡ l → ⊥) → put l y (put k x a) ≡ put k x (put l y a)
 put-swap k l x y a ne = λ i j. at j i
   where
     at : (j : ℕ) → put l y (put k x a) j ≡ put k x (put l y a) j
@@ -119,10 +119,7 @@ restricted-more old new ts level bit n r all here says = record {
   ];
 }
 
-pub restricted-none : {S : Type 0} (done : IndexMap Node Node S) (ts : List Triple) (level : ℕ) (bit : Bool) → done.entries ≡ [] → AllRestricted done ts level bit
-restricted-none done ts level bit none = record { right = λ n r at. absurd (let e : None ≡ Some r = ap (lookup (node_eq n)) (sym none) ∙ at in cc) }
-
-node_eq-same : (x y : Node) → node_eq x y ≡ true → x ≡ y
+pub node_eq-same : (x y : Node) → node_eq x y ≡ true → x ≡ y
 node_eq-same x y e = λ i. record { 0 = eqb-true _ _ e i }
 
 -- what an insertion says of each key

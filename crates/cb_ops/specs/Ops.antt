@@ -25,7 +25,11 @@ Agree (l ∷ ls) a b = (a l ≡ b l) × Agree ls a b
 pub record DependsOn (ts : List Triple) (n : ℕ) (ls : List ℕ) : Type 0 where
   pub agrees : (a b : Bits) → Agree ls a b → function_of ts n a ≡ function_of ts n b
 
--- the same of each of these nodes
+-- the node's function is the same for both bits at the level
+abbrev pub IsFree : List Triple → ℕ → ℕ → Type 0
+IsFree ts n l = (a : Bits) (b : Bool) → function_of ts n (put l b a) ≡ function_of ts n a
+
+-- each of these nodes depends on the levels of the list alone
 abbrev pub DependAll : List Triple → List ℕ → List ℕ → Type 0
 DependAll ts [] ls = Unit {0}
 DependAll ts (n ∷ ns) ls = DependsOn ts n ls × DependAll ts ns ls

@@ -1,23 +1,28 @@
 //! Operations on shared decision diagrams, with a memo of answers (Brace, Rudell and Bryant 1990).
 #![tactic(auto)]
 
-ghost use Rattle.std.specs.Prelude.{◌≡◌, ◌≢◌, ◌⊎◌, ℕ, Bool, not, ◌&&◌, ◌||◌, ◌+◌, ◌-◌, ◌*◌, ◌<◌, ◌≤◌, ◌^◌, ◌↔◌, [], ◌∷◌, ◌++◌, List, length, take, Some, None, Ok, Err, IfOk, OnOk, OnErr, IfSome, IfNone, IsTrue, true, false, if◌then◌else◌};
+ghost use Rattle.std.specs.Prelude.{◌≡◌, ◌≢◌, ◌⊎◌, ℕ, Bool, not, ◌&&◌, ◌||◌, ◌+◌, ◌-◌, ◌*◌, ◌<◌, ◌≤◌, ◌^◌, ◌↔◌, [], ◌∷◌, ◌++◌, List, length, map, take, Some, None, Ok, Err, IfOk, OnOk, OnErr, IfSome, IfNone, IsTrue, Contains, true, false, if◌then◌else◌};
 ghost use Rattle.cb_model.specs.Bits.{Bits, xor, put};
 ghost use Rattle.indexmap.specs.IndexMap.{get};
 ghost use Rattle.cb_ops.specs.Done.{AllRestricted, node_eq};
+ghost use Rattle.cb_ops.specs.Substitute.{AreNodes, AllSubstituted, SubstituteCause, SubstituteRoom, image_of, substituted};
+ghost use Rattle.cb_ops.specs.Support.{IsWithin, AllWithin, IsGathered};
 ghost use Rattle.cb_dd.specs.Diagram.{Store, IsDiagram, IsCanonical, IsNode, IsChild, IsFull, HasParts, Holds, function_of, level_of, fulls_after, parts_of, triple};
 ghost use Rattle.std.specs.List.Sorted.{IsStrictlyIncreasing};
-ghost use Rattle.cb_ops.specs.Ops.{Grows, StandsFor, IsIte, IsCofactor, Room, HasCause, DependsOn, IsLeastTrue, IsLeastSide};
+ghost use Rattle.cb_ops.specs.Ops.{Grows, StandsFor, IsIte, IsCofactor, Room, HasCause, DependsOn, IsFree, IsLeastTrue, IsLeastSide};
 ghost use Rattle.cb_ops.specs.declared.Call.{Call};
 
 use cb_dd::{Dd, DdMark, Node, Stop};
-use indexmap::IndexMap;
+use indexmap::{IndexMap, IndexSet};
+use smallvec::SmallVec;
 use std::alloc::{AllocError, Global};
 use std::marker::Model;
 
-/// How many answers the memo holds at least, before it is cleared to make room; it holds as many as there are
-/// nodes, where there are more. With this number a multiplier of 10 bits took half the time that a memo took which
-/// grew without bound, and a third of its memory.
+/// Levels, rising; up to 16 of them take no memory.
+pub type Levels = SmallVec<u32, 16>;
+
+/// How many answers the memo has room for from the start. It is cleared when it holds as many, and in a store of more
+/// nodes as many as there are nodes, so that an operation on large diagrams doesn't lose what it has just found.
 const MEMO_ROOM: usize = 65_536;
 
 // A call of `ite`, by the numbers of its arguments.
@@ -356,6 +361,86 @@ impl Ops {
         Ok(r)
     }
 
+    /// The node with each level of the list replaced by its node, all at once.
+    pub fn substitute(&mut self, f: Node, list: &[(u32, Node)]) -> Result<Node, Stop>
+        requires f { IsNode self.old.triples f.0 }
+        requires nodes { AreNodes self.old.triples list.now }
+        requires rise { IsStrictlyIncreasing (map (λ p. p.0) list.now) }
+        ensures is_node { IfOk result (λ n. IsNode self.new.triples n.0) }
+        ensures function { IfOk result (λ n. StandsFor self.new.triples n.0 (λ a.
+            function_of self.old.triples f.0
+            (substituted self.old.triples list.now a))) }
+        ensures grows { Grows self.old self.new }
+        ensures room { SubstituteRoom f.0 list.now self.old self.new }
+        ensures full { result ≡ Err Stop.Nodes → length self.new.triples ≡ self.new.budget }
+        ensures nodes { result ≡ Err Stop.Nodes → SubstituteCause f.0 list.now self.old self.new }
+        ensures unbounded { self.old.budget ≡ 2 ^ 64 - 1 → result ≢ Err Stop.Nodes }
+        ensures fulls { self.new.fulls ≡ fulls_after self.old.fulls result }
+        ensures diagram { IsDiagram self.new.triples }
+    {
+        let mut done = IndexMap::new(*self.memo.allocator());
+        let n = self.substitute_in(f, list, &mut done)?;
+        Ok(n)
+    }
+
+    // The same, with the nodes for which it is done.
+    fn substitute_in(
+        &mut self,
+        f: Node,
+        list: &[(u32, Node)],
+        done: &mut IndexMap<Node, Node>,
+    ) -> Result<Node, Stop>
+        requires f { IsNode self.old.triples f.0 }
+        requires nodes { AreNodes self.old.triples list.now }
+        requires done { AllSubstituted done.old self.old.triples list.now }
+        ensures is_node { IfOk result (λ n. IsNode self.new.triples n.0) }
+        ensures function { IfOk result (λ n. StandsFor self.new.triples n.0 (λ a.
+            function_of self.old.triples f.0
+            (substituted self.old.triples list.now a))) }
+        ensures grows { Grows self.old self.new }
+        ensures room { SubstituteRoom f.0 list.now self.old self.new }
+        ensures full { result ≡ Err Stop.Nodes → length self.new.triples ≡ self.new.budget }
+        ensures unbounded { self.old.budget ≡ 2 ^ 64 - 1 → result ≢ Err Stop.Nodes }
+        ensures fulls { self.new.fulls ≡ fulls_after self.old.fulls result }
+        ensures diagram { IsDiagram self.new.triples }
+        ensures done { AllSubstituted done.new self.new.triples list.now }
+    {
+        let _count = self.count();
+        let Some((at, lo, hi)) = self.parts(f) else {
+            return Ok(f);
+        };
+        if let Some(r) = recall_in(done, f) {
+            return Ok(r);
+        }
+        let low = self.substitute_in(lo, list, done)?;
+        let high = self.substitute_in(hi, list, done)?;
+        let choice = self.image(at, list)?;
+        let r = self.ite(choice, high, low)?;
+        remember(done, f, r);
+        Ok(r)
+    }
+
+    // The node that replaces the level, or else the bit at the level.
+    fn image(&mut self, level: u32, list: &[(u32, Node)]) -> Result<Node, Stop>
+        requires { AreNodes self.old.triples list.now }
+        ensures is_node { IfOk result (λ n. IsNode self.new.triples n.0) }
+        ensures function { IfOk result (λ n. StandsFor self.new.triples n.0 (λ a.
+            substituted self.old.triples list.now a level)) }
+        ensures grows { Grows self.old self.new }
+        ensures one { length self.new.triples ≤ length self.old.triples + 1 }
+        ensures full { result ≡ Err Stop.Nodes → length self.new.triples ≡ self.new.budget }
+        ensures unbounded { self.old.budget ≡ 2 ^ 64 - 1 → result ≢ Err Stop.Nodes }
+        ensures fulls { self.new.fulls ≡ fulls_after self.old.fulls result }
+        ensures diagram { IsDiagram self.new.triples }
+    {
+        let _count = self.count();
+        if let Some(n) = replacing(list, level) {
+            return Ok(n);
+        }
+        let n = self.node(level, Node::ZERO, Node::ONE)?;
+        Ok(n)
+    }
+
     /// Whether the node is 1 at some assignment; if so, `into` becomes the least that makes it so, its i-th bit for
     /// the level at place i: 0 before 1, and the first level weighs most. Else `into` is kept.
     pub fn least_true(&self, f: Node, levels: &[u32], into: &mut [bool]) -> bool
@@ -398,6 +483,49 @@ impl Ops {
             }
             _ => (false, n),
         }
+    }
+
+    /// The levels on which the node depends, rising.
+    pub fn support(&self, f: Node) -> Result<Levels, AllocError>
+        requires { IsNode self.now.triples f.0 }
+        ensures rise { IfOk result (λ levels. IsStrictlyIncreasing levels.items) }
+        ensures enough { IfOk result (λ levels. DependsOn self.now.triples f.0 levels.items) }
+        ensures needed { IfOk result (λ levels. (l : ℕ) → Contains levels.items l → IsFree self.now.triples f.0 l → ⊥) }
+    {
+        let alloc = *self.memo.allocator();
+        let mut seen = IndexSet::new(alloc);
+        let mut levels = IndexSet::new(alloc);
+        self.gather(f, &mut seen, &mut levels)?;
+        levels.sort()?;
+        let list = SmallVec::from_slice(alloc, levels.as_slice())?;
+        Ok(list)
+    }
+
+    // Adds the levels of the nodes below and at this one; those of the nodes that were seen are there already.
+    fn gather(
+        &self,
+        f: Node,
+        seen: &mut IndexSet<Node>,
+        levels: &mut IndexSet<u32>,
+    ) -> Result<(), AllocError>
+        requires node { IsNode self.now.triples f.0 }
+        requires seen { AllWithin seen.old.keys self.now.triples levels.old.keys }
+        ensures seen { AllWithin seen.new.keys self.now.triples levels.new.keys }
+        ensures found { OnOk result (IsWithin self.now.triples f.0 levels.new.keys) }
+        ensures gathered { IsGathered self.now.triples f.0 levels.old.keys levels.new.keys }
+    {
+        let _count = self.count();
+        let Some((at, lo, hi)) = self.parts(f) else {
+            return Ok(());
+        };
+        if seen.contains(&f) {
+            return Ok(());
+        }
+        levels.insert(at)?;
+        self.gather(lo, seen, levels)?;
+        self.gather(hi, seen, levels)?;
+        seen.insert(f)?;
+        Ok(())
     }
 
     // The level of a node, above all levels for the constants.
@@ -512,6 +640,18 @@ fn call_of(f: Node, g: Node, h: Node) -> Option<Call>
     Some(Call { f, g, h })
 }
 
+// The node that replaces the level, if one does.
+fn replacing(list: &[(u32, Node)], level: u32) -> Option<Node>
+    ensures { result ≡ image_of list.now level }
+{
+    for entry in list {
+        if level == entry.0 {
+            return Some(entry.1);
+        }
+    }
+    None
+}
+
 // What was remembered for the node.
 fn recall_in(done: &IndexMap<Node, Node>, n: Node) -> Option<Node>
     ensures { IfSome result (λ r. get node_eq done.now n ≡ Some r) }
@@ -525,4 +665,88 @@ fn remember(done: &mut IndexMap<Node, Node>, n: Node, r: Node)
         → ((q ≡ n) × (v ≡ r)) ⊎ (get node_eq done.old q ≡ Some v) }
 {
     let _ = done.insert(n, r);
+}
+
+#[cfg(test)]
+mod tests {
+    use super::*;
+    use std::test::Fail;
+
+    // A store with the bits at levels 0 and 1.
+    fn two_bits(alloc: Global) -> Result<(Ops, Node, Node), Fail>
+        ensures { IfOk result (λ p. IsNode p.0.triples p.1.0 × IsNode p.0.triples p.2.0) }
+    {
+        let mut ops = Ops::new(alloc, 100)?;
+        let x = ops.node(0, Node::ZERO, Node::ONE)?;
+        let y = ops.node(1, Node::ZERO, Node::ONE)?;
+        Ok((ops, x, y))
+    }
+
+    fn is_here(ops: &Ops, n: Node) -> bool
+        ensures { IsTrue result ↔ IsNode ops.now.triples n.0 }
+    {
+        n.0 < ops.count() + 2
+    }
+
+    #[test]
+    fn connects_two_bits(rt: HostRuntime) -> Result<(), Fail> {
+        let (mut ops, x, y) = two_bits(rt.alloc())?;
+        let both = ops.and(x, y)?;
+        assert!(rt; is_here(&ops, x) && is_here(&ops, y));
+        assert_eq!(rt; ops.parts(both), Some((0, Node::ZERO, y)));
+        let either = ops.or(y, x)?;
+        assert!(rt; is_here(&ops, x) && is_here(&ops, y));
+        assert_eq!(rt; ops.parts(either), Some((0, y, Node::ONE)));
+        let other = ops.not(y)?;
+        assert!(rt; is_here(&ops, x) && is_here(&ops, y));
+        let one = ops.xor(x, y)?;
+        assert_eq!(rt; ops.parts(one), Some((0, y, other)));
+        Ok(())
+    }
+
+    #[test]
+    fn chooses_between_nodes(rt: HostRuntime) -> Result<(), Fail> {
+        let (mut ops, x, y) = two_bits(rt.alloc())?;
+        let other = ops.not(x)?;
+        assert_eq!(rt; ops.not(other), Ok(x));
+        assert!(rt; is_here(&ops, x) && is_here(&ops, y));
+        let both = ops.and(y, x)?;
+        assert!(rt; is_here(&ops, x) && is_here(&ops, y));
+        assert_eq!(rt; ops.ite(x, y, Node::ZERO), Ok(both));
+        Ok(())
+    }
+
+    #[test]
+    fn takes_cofactors_and_the_support(rt: HostRuntime) -> Result<(), Fail> {
+        let (mut ops, x, y) = two_bits(rt.alloc())?;
+        let both = ops.and(x, y)?;
+        assert_eq!(rt; ops.restrict(both, 0, true), Ok(y));
+        assert!(rt; is_here(&ops, both));
+        assert_eq!(rt; ops.exists(both, 0), Ok(y));
+        assert!(rt; is_here(&ops, both));
+        let levels = ops.support(both)?;
+        assert_eq!(rt; levels.as_slice(), [0, 1].as_slice());
+        Ok(())
+    }
+
+    #[test]
+    fn replaces_a_level(rt: HostRuntime) -> Result<(), Fail> {
+        let (mut ops, x, y) = two_bits(rt.alloc())?;
+        let both = ops.and(x, y)?;
+        assert!(rt; is_here(&ops, x));
+        assert_eq!(rt; ops.substitute(both, &[(1, x)]), Ok(x));
+        Ok(())
+    }
+
+    #[test]
+    fn finds_the_least_assignment(rt: HostRuntime) -> Result<(), Fail> {
+        let (mut ops, x, y) = two_bits(rt.alloc())?;
+        let either = ops.or(x, y)?;
+        let levels = ops.support(either)?;
+        let mut bits = [true, false];
+        assert_eq!(rt; levels.len(), 2);
+        assert!(rt; ops.least_true(either, levels.as_slice(), &mut bits));
+        assert_eq!(rt; bits, [false, true]);
+        Ok(())
+    }
 }

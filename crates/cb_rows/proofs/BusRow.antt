@@ -7,15 +7,13 @@ use Rattle.cb_model.specs.declared.Tree.{Tree}
 use Rattle.cb_model.specs.declared.Tree.TheVariants as tree
 use Rattle.cb_model.specs.declared.Tree.TheOpen.{Tree-F}
 use Rattle.cb_model.specs.declared.Tree.TheFolds.{fold-roll-Tree}
-use Rattle.cb_model.specs.declared.Goal.TheVariants as goal
-use Rattle.cb_model.specs.declared.Clause.{Clause}
 use Rattle.cb_model.specs.Bits.{none}
 use Rattle.cb_model.specs.Values.{Valuation}
 use Rattle.cb_model.specs.Equations.{Solvable, Sat}
-use Rattle.cb_model.specs.Program.{Program, shift_tree, shift_tree_step}
-use Rattle.cb_model.specs.Derivation.{Query, Branch, Run, Try, Made, Printed, Answered, Becomes, Adds, Goes, here, on, whole, Whole, runs, resolved, first_branch}
+use Rattle.cb_model.specs.Program.{shift_tree, shift_tree_step}
+use Rattle.cb_model.specs.Derivation.{Run, Try, Made, Printed, Answered, Becomes, Adds, Goes, here, on, whole, Whole, runs, first_branch}
 use Rattle.cb_model.specs.Answers.{IsShape, InOrder}
-use Rattle.cb_model.specs.Line.{Names, IsLine, told}
+use Rattle.cb_model.specs.Line.{IsLine, told}
 use Rattle.cb_model.specs.Commands.{Max}
 use Rattle.cb_model.specs.Output.{QuerySays, all, no_lines, more_lines}
 use Rattle.cb_laws.proofs.Values.{tree_values}

@@ -1,20 +1,12 @@
 -- `circuit(half_adder, [a, b], [S, C])`: a step with two fresh variables, whose outputs are fixed by the circuit.
 use Rattle.std.proofs.Common.{◌≡◌, ℕ, Bool, true, false, ◌&&◌, List, [], ◌∷◌, refl, ◌∙◌, ap, inl, codes}
-use Rattle.std.specs.Prelude.{get_or, take, None}
-use Rattle.cb_model.specs.declared.Sort.TheVariants as sort
-use Rattle.cb_model.specs.declared.Expr.TheVariants as expr
-use Rattle.cb_model.specs.declared.Tree.{Tree}
-use Rattle.cb_model.specs.declared.Tree.TheVariants as tree
-use Rattle.cb_model.specs.declared.Goal.TheVariants as goal
-use Rattle.cb_model.specs.declared.GateKind.TheVariants as gate
-use Rattle.cb_model.specs.declared.Circuit.{Circuit}
+use Rattle.std.specs.Prelude.{get_or, take}
 use Rattle.cb_model.specs.Bits.{none, bits_of, xor}
 use Rattle.cb_model.specs.Values.{Ground, Word}
 use Rattle.cb_model.specs.Equations.{Part, PartHolds, Solvable}
 use Rattle.cb_model.specs.Circuits.{Consistent, Outputs, read_all}
-use Rattle.cb_model.specs.Program.{Program}
-use Rattle.cb_model.specs.Derivation.{Query, Branch, Run, Made, Printed, Answered, Adds, Goes, here, on, whole, Whole, runs, with_circuit, first_branch}
-use Rattle.cb_model.specs.Line.{Names, IsLine, told}
+use Rattle.cb_model.specs.Derivation.{Run, Made, Printed, Answered, Adds, Goes, here, on, whole, Whole, runs, first_branch}
+use Rattle.cb_model.specs.Line.{IsLine, told}
 use Rattle.cb_model.specs.Commands.{Max}
 use Rattle.cb_model.specs.Output.{QuerySays, all, no_lines, more_lines}
 use Rattle.cb_laws.proofs.Values.{expr_values, tree_values}

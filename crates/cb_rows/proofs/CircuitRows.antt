@@ -1,13 +1,11 @@
 -- The half adder and its comparisons.
-use Rattle.std.proofs.Common.{◌≡◌, ◌≢◌, ℕ, suc, ◌+◌, ◌<◌, Bool, true, false, not, ◌&&◌, ◌||◌, List, [], ◌∷◌, map, length, get_or, take, refl, sym, ◌∙◌, ap, subst, arith, codes}
+use Rattle.std.proofs.Common.{◌≡◌, ℕ, ◌<◌, Bool, true, false, ◌&&◌, ◌||◌, List, [], ◌∷◌, length, get_or, take, refl, sym, ◌∙◌, ap, arith, codes}
 use Rattle.std.specs.Fmt.{digits}
 use Rattle.cb_model.specs.declared.Circuit.{Circuit}
 use Rattle.cb_model.specs.declared.Outcome.TheVariants as outcome
-use Rattle.cb_model.specs.Bits.{xor, weight, bits_of}
+use Rattle.cb_model.specs.Bits.{xor, weight}
 use Rattle.cb_model.specs.Circuits.{Consistent, Outputs, read_all, BySpec, spec_values, Agrees, LeastDifference}
-use Rattle.cb_model.specs.Verdicts.{Compared, agrees, differs, differs_text}
-use Rattle.cb_model.specs.Answers.{value_text}
-use Rattle.cb_model.specs.Adder.{adder_text}
+use Rattle.cb_model.specs.Verdicts.{Compared, agrees, differs}
 use Rattle.cb_laws.proofs.Values.{expr_values}
 use Rattle.cb_rows.specs.CircuitExamples.{A, B, half_adder, full_adder, half_with, circuit_at, half_spec, CircuitExamples}
 

@@ -2,18 +2,15 @@
 use Rattle.std.proofs.Common.{◌≡◌, ℕ, Bool, false, not, List, [], ◌∷◌, refl, sym, ◌∙◌, ap, inl, inr, codes, pos}
 use Rattle.std.specs.Prelude.{Some}
 use Rattle.std.specs.Fmt.{digits}
-use Rattle.cb_model.specs.declared.Sort.TheVariants as sort
 use Rattle.cb_model.specs.declared.Expr.TheVariants as expr
 use Rattle.cb_model.specs.declared.Tree.{Tree}
 use Rattle.cb_model.specs.declared.Tree.TheVariants as tree
-use Rattle.cb_model.specs.declared.Goal.TheVariants as goal
 use Rattle.cb_model.specs.Bits.{Bits, none, bits_of}
 use Rattle.cb_model.specs.Values.{Ground, Bit, Word, Int, Name, Last, More, Valuation}
 use Rattle.cb_model.specs.Equations.{Pair, Item, Meets, Solvable}
-use Rattle.cb_model.specs.Program.{Program}
-use Rattle.cb_model.specs.Derivation.{Query, Branch, Run, Made, Printed, Answered, Adds, Goes, here, on, whole, Whole, runs, extended, first_branch}
+use Rattle.cb_model.specs.Derivation.{Branch, Run, Made, Printed, Answered, Adds, Goes, here, on, whole, Whole, runs, extended, first_branch}
 use Rattle.cb_model.specs.Answers.{IsShape, Gives, Gen, values, with_opens}
-use Rattle.cb_model.specs.Line.{Names, IsLine, told}
+use Rattle.cb_model.specs.Line.{IsLine, told}
 use Rattle.cb_model.specs.Commands.{Max}
 use Rattle.cb_model.specs.Output.{QuerySays, all, no_lines, more_lines}
 use Rattle.cb_laws.proofs.Values.{expr_values, tree_values}

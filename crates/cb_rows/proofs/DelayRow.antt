@@ -1,19 +1,11 @@
 -- The plain derivation of `inv(X, Y)` with `:- delay inv(const, any).`: the goal waits, and the branch is an answer.
 use Rattle.std.proofs.Common.{◌≡◌, Bool, true, false, [], ◌∷◌, refl, sym, ◌∙◌, inr}
-use Rattle.cb_model.specs.declared.Sort.TheVariants as sort
-use Rattle.cb_model.specs.declared.When.TheVariants as when
-use Rattle.cb_model.specs.declared.Expr.TheVariants as expr
-use Rattle.cb_model.specs.declared.Tree.{Tree}
-use Rattle.cb_model.specs.declared.Tree.TheVariants as tree
-use Rattle.cb_model.specs.declared.Goal.{Goal}
-use Rattle.cb_model.specs.declared.Goal.TheVariants as goal
 use Rattle.cb_model.specs.Values.{Bit}
 use Rattle.cb_model.specs.Equations.{Meets}
-use Rattle.cb_model.specs.Program.{Program}
-use Rattle.cb_model.specs.Derivation.{Query, Branch, Run, Made, Printed, Answered, Becomes, Goes, here, on, whole, Whole, Plain, runs, Ready, waits, first_branch}
+use Rattle.cb_model.specs.Derivation.{Run, Made, Printed, Answered, Becomes, Goes, here, on, whole, Whole, Plain, runs, Ready, waits, first_branch}
 use Rattle.cb_laws.proofs.Values.{expr_values, tree_values}
 use Rattle.cb_laws.proofs.Tables.{with_bits, zero_fits, bits_equal}
-use Rattle.cb_rows.specs.DelayRow.{X, Y, call, p, q, behind}
+use Rattle.cb_rows.specs.DelayRow.{call, p, q, behind}
 
 meets : (x : Bool) → Meets p.world [] (λ n. false) (with_bits (λ n. x))
 meets x = record { admitted = tt; sorted = λ n. zero_fits; sat = tt }

@@ -3,22 +3,18 @@
 use Rattle.std.proofs.Common.{◌≡◌, ℕ, zero, suc, ◌+◌, ◌<◌, true, false, List, [], ◌∷◌, refl, sym, ◌∙◌, ap, subst, inl, inr, codes, arith}
 use Rattle.std.specs.Prelude.{unwrap_or, is_some}
 use Rattle.std.specs.Fmt.{digits}
-use Rattle.cb_model.specs.declared.Sort.TheVariants as sort
 use Rattle.cb_model.specs.declared.Expr.{Expr}
 use Rattle.cb_model.specs.declared.Expr.TheVariants as expr
 use Rattle.cb_model.specs.declared.Expr.TheOpen.{Expr-F}
 use Rattle.cb_model.specs.declared.Expr.TheFolds.{fold-roll-Expr}
-use Rattle.cb_model.specs.declared.Tree.{Tree}
-use Rattle.cb_model.specs.declared.Tree.TheVariants as tree
-use Rattle.cb_model.specs.declared.Goal.{Goal}
 use Rattle.cb_model.specs.declared.Goal.TheVariants as goal
 use Rattle.cb_model.specs.declared.Clause.{Clause}
 use Rattle.cb_model.specs.Bits.{none, yes_here, Bits, put}
 use Rattle.cb_model.specs.Values.{Bit, Valuation}
 use Rattle.cb_model.specs.Equations.{Pair, Item, Meets, Solvable}
-use Rattle.cb_model.specs.Program.{Program, shift_expr, shift_expr_step, shift_tree}
-use Rattle.cb_model.specs.Derivation.{Query, Branch, Run, Made, Printed, Note, Answered, Becomes, Adds, Goes, here, on, whole, Whole, runs, Matches, RuleMatches, waits, extended, resolved, first_branch}
-use Rattle.cb_model.specs.Line.{Names, IsLine, told}
+use Rattle.cb_model.specs.Program.{shift_expr, shift_expr_step, shift_tree}
+use Rattle.cb_model.specs.Derivation.{Branch, Run, Made, Printed, Note, Answered, Becomes, Adds, Goes, here, on, whole, Whole, runs, Matches, RuleMatches, waits, extended, resolved, first_branch}
+use Rattle.cb_model.specs.Line.{IsLine, told}
 use Rattle.cb_model.specs.Commands.{Max}
 use Rattle.cb_model.specs.Output.{QuerySays, all, no_lines, more_lines}
 use Rattle.cb_laws.proofs.Values.{expr_values, tree_values}

@@ -1,13 +1,13 @@
 -- Files: what their rows rest on.
-use Rattle.std.proofs.Common.{◌≡◌, ◌≢◌, ℕ, zero, suc, ◌+◌, ◌<◌, Bool, true, false, List, [], ◌∷◌, length, refl, sym, ◌∙◌, ap, subst, inl, inr, arith, lit<, codes}
+use Rattle.std.proofs.Common.{◌≡◌, ℕ, zero, suc, Bool, true, false, List, [], ◌∷◌, refl, sym, ◌∙◌, ap, subst, inl, inr, arith, lit<, codes}
 use Rattle.std.specs.Prelude.{Option, Some, None, slice_get, Contains, bytes_eq}
 use Rattle.std.specs.Fmt.{digits}
 use Rattle.cb_model.specs.declared.Sort.{Sort}
 use Rattle.cb_model.specs.declared.Sort.TheVariants as sort
 use Rattle.cb_model.specs.Text.{Text}
-use Rattle.cb_model.specs.Grammar.{Form, Variable, Integer, Name, one, FormGoal, AnEqual, ACall}
-use Rattle.cb_model.specs.Sorts.{Body, Place, Marked, at_place, by_form, from_side, to_side, IsSide, left, right, Subject, Var, Equation, HasSort, Clash, two_marks, wrong_place, wrong_side, bit_at_bus, bit_of_bus, all_places, form_sort, IsBit}
-use Rattle.cb_model.specs.Loading.{BodyRefusal, body_of, query_body}
+use Rattle.cb_model.specs.Grammar.{Form, Variable, Name, one, FormGoal, AnEqual}
+use Rattle.cb_model.specs.Sorts.{Body, Marked, at_place, by_form, from_side, to_side, IsSide, left, right, Subject, Var, Equation, Clash, two_marks, wrong_place, wrong_side, bit_at_bus, bit_of_bus, all_places, form_sort, IsBit}
+use Rattle.cb_model.specs.Loading.{body_of, query_body}
 use Rattle.cb_model.specs.Circuits.{Module, Instance}
 use Rattle.cb_model.specs.Facts.{Feeds, Leads, feeds, leads_on, HasCycle}
 use Rattle.cb_rows.specs.FileExamples.{atom, var, p_bool, chain_goals, clash_goals, ring, row, FileExamples}
@@ -106,22 +106,22 @@ clashes = two_marks (Var (codes "X")) sort.Bool sort.Term x_bool x_term (λ e. c
 
 -- ---- cycles
 
-abbrev outs_of : Option Instance → List Text
+abbrev pub outs_of : Option Instance → List Text
 outs_of (Some i) = i.outs
 outs_of None = []
 
-abbrev ins_of : Option Instance → List Text
+abbrev pub ins_of : Option Instance → List Text
 ins_of (Some i) = i.ins
 ins_of None = []
 
-feeds_net : (m : Module) (i j : ℕ) (f : Feeds m i j) → Contains (outs_of (slice_get m.instances i)) f.net × Contains (ins_of (slice_get m.instances j)) f.net
+pub feeds_net : (m : Module) (i j : ℕ) (f : Feeds m i j) → Contains (outs_of (slice_get m.instances i)) f.net × Contains (ins_of (slice_get m.instances j)) f.net
 feeds_net m i j f = (subst (λ o. Contains (outs_of o) f.net) (sym f.from_is) f.given, subst (λ o. Contains (ins_of o) f.net) (sym f.to_is) f.taken)
 
-only_net : (x y : Text) → Contains (x ∷ []) y → x ≡ y
+pub only_net : (x y : Text) → Contains (x ∷ []) y → x ≡ y
 only_net x y (zero, l, h) = h
 only_net x y (suc k, l, h) = absurd (omega arith)
 
-no_net : (y : Text) → Contains [] y → ⊥
+pub no_net : (y : Text) → Contains [] y → ⊥
 no_net y (k, l, h) = absurd (omega arith)
 
 -- only the second gate of the row feeds the first

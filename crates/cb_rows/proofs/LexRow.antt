@@ -2,9 +2,8 @@
 use Rattle.std.proofs.Common.{◌≡◌, ℕ, zero, suc, ◌+◌, ◌-◌, ◌<◌, ◌≤◌, Bool, true, false, ◌&&◌, List, [], ◌∷◌, ◌++◌, length, take, refl, ◌∙◌, ap, codes, arith, inl, pos}
 use Rattle.std.specs.Prelude.{Option, Some, None}
 use Rattle.cb_model.specs.declared.Kind.{Kind}
-use Rattle.cb_model.specs.declared.Kind.TheVariants as kind
 use Rattle.cb_model.specs.Text.{Text}
-use Rattle.cb_model.specs.Tokens.{Token, spelled, Longest, NoToken}
+use Rattle.cb_model.specs.Tokens.{spelled, Longest, NoToken}
 use Rattle.cb_laws.proofs.Decided.{and_true}
 
 abbrev is_nothing : Option Kind → Bool

@@ -17,4 +17,6 @@ pub mod TextRows
 pub mod TwoWokenRow
 pub mod TwoRulesRow
 pub mod WideRow
+pub mod VerifyRow
 pub mod OutputRows
+pub mod DetailRows

@@ -1,10 +1,8 @@
 -- A whole run, from the bytes of the file and the input to the text.
-use Rattle.std.proofs.Common.{◌≡◌, ◌≢◌, ℕ, zero, suc, ◌+◌, ◌<◌, ◌≤◌, Bool, true, false, not, ◌&&◌, nat_lt, List, [], ◌∷◌, ◌++◌, length, get_or, refl, sym, ◌∙◌, ap, subst, codes, arith, rules, inl, inr, pos, lit<, lit≤}
+use Rattle.std.proofs.Common.{◌≡◌, ℕ, zero, suc, Bool, true, false, List, [], ◌∷◌, refl, sym, ◌∙◌, ap, subst, codes, arith, rules, inl, inr, pos, lit<, lit≤}
 use Rattle.std.specs.Prelude.{Option, Some, None, All, AllPairs, slice_get, Contains}
 use Rattle.std.specs.Fmt.{digits}
 use Rattle.std.specs.List.{list_all}
-use Rattle.std.proofs.lemmas.List.Elements.{All-nil}
-use Rattle.std.proofs.lemmas.List.Kept.{AllPairs-cons}
 use Rattle.cb_model.specs.declared.Sort.{Sort}
 use Rattle.cb_model.specs.declared.Sort.TheVariants as sort
 use Rattle.cb_model.specs.declared.Kind.TheVariants as kind
@@ -12,17 +10,16 @@ use Rattle.cb_model.specs.declared.Expr.TheVariants as expr
 use Rattle.cb_model.specs.declared.Tree.{Tree}
 use Rattle.cb_model.specs.declared.Tree.TheVariants as tree
 use Rattle.cb_model.specs.declared.Outcome.TheVariants as outcome
-use Rattle.cb_model.specs.Text.{Text, lines_text}
+use Rattle.cb_model.specs.Text.{lines_text}
 use Rattle.cb_model.specs.Bits.{Bits}
 use Rattle.cb_model.specs.Values.{Valuation}
 use Rattle.cb_model.specs.Equations.{Meets}
 use Rattle.cb_model.specs.Tokens.{Token, Lexes, ended, layout, token, byte, Byte}
-use Rattle.cb_model.specs.Grammar.{Form, Integer, Variable, Name, Last, one, Plus, a_prim, an_integer, a_variable, a_call, an_atom, a_compound, exprs, no_comma, FormClause, FormQuery, FormGoal, AnEqual, Rule, ReadsClause, directive, fact, equals, calls, last_goal, more_goals, ReadsQuery, a_query, ReadsAll, no_more, one_more, CanGoOn, nestings, IsReading, whole, lexed, unfinished, Whole, Lexed, Unfinished}
+use Rattle.cb_model.specs.Grammar.{Form, Integer, Variable, Name, Last, one, Plus, a_prim, an_integer, a_variable, a_call, an_atom, a_compound, exprs, no_comma, FormClause, FormQuery, FormGoal, AnEqual, ReadsClause, directive, fact, equals, calls, last_goal, more_goals, ReadsQuery, a_query, ReadsAll, no_more, one_more, CanGoOn, nestings, IsReading, whole, lexed, unfinished, Whole, Lexed, Unfinished}
 use Rattle.cb_model.specs.Commands.{Max}
 use Rattle.cb_model.specs.Derivation.{Whole as Ended}
 use Rattle.cb_model.specs.Answers.{IsShape, Gives, Gen}
 use Rattle.cb_model.specs.Line.{IsLine, told}
-use Rattle.cb_model.specs.Directives.{Declared}
 use Rattle.cb_model.specs.Sorts.{Body, Marked, at_place, by_form, from_side, to_side, IsSide, left, right, Subject, Var, Equation, Clash, two_marks, wrong_place, wrong_side, bit_at_bus, bit_of_bus, all_places, form_sort}
 use Rattle.cb_model.specs.Loading.{BodyRefusal, body_of, query_body, RulesRefusal, no_sorts, more_sorts, a_call as the_call, an_equal, no_goals, more_goals as goals_more, skips_directive, a_clause, no_clauses, IsClause}
 use Rattle.cb_model.specs.Loading as load
@@ -34,14 +31,14 @@ use Rattle.cb_laws.proofs.Tables.{zero_fits, bits_equal}
 use Rattle.cb_model.specs.Verdicts.{stopped}
 use Rattle.cb_laws.proofs.Shapes.{shape_values, text_values, size_values}
 use Rattle.cb_laws.proofs.Fixed.{first_bit, picks_fixed}
-use Rattle.cb_laws.proofs.Decided.{and_true}
 use Rattle.cb_rows.specs.TryRow as try
 use Rattle.cb_rows.proofs.TryRow as try_proof
 use Rattle.cb_rows.proofs.LexRow.{longest, no_token}
 use Rattle.cb_rows.proofs.TextRows.{shallow, alone, no_deep, not_open}
 use Rattle.cb_rows.proofs.CircuitRows as circuit_rows
+use Rattle.cb_rows.proofs.VerifyRow as verify_row
 use Rattle.cb_rows.specs.TextExamples.{token_at}
-use Rattle.cb_rows.specs.OutputExamples.{file, bit_clause, clauses, p_bool, loaded, input, goals, names, run_words, adders, two_adders, OutputExamples}
+use Rattle.cb_rows.specs.OutputExamples.{file, bit_clause, clauses, p_bool, loaded, input, goals, names, run_words, OutputExamples}
 
 -- ---- the file's text
 
@@ -357,4 +354,6 @@ rows_hold = record {
   no_module = (refl, refl);
   no_spec = (refl, refl);
   ports_differ = (refl, refl);
+  accepted_module = verify_row.is_loaded;
+  verified_file = verify_row.verified;
 }

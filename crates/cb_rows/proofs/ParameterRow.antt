@@ -1,18 +1,12 @@
 -- The answer line of `X * a = a`.
 use Rattle.std.proofs.Common.{◌≡◌, Bool, true, false, not, ◌&&◌, ◌||◌, List, [], ◌∷◌, refl, sym, ◌∙◌, ap, inl, inr, codes, pos}
 use Rattle.std.specs.Fmt.{digits}
-use Rattle.cb_model.specs.declared.Sort.TheVariants as sort
-use Rattle.cb_model.specs.declared.Expr.{Expr}
 use Rattle.cb_model.specs.declared.Expr.TheVariants as expr
-use Rattle.cb_model.specs.declared.Tree.{Tree}
-use Rattle.cb_model.specs.declared.Tree.TheVariants as tree
 use Rattle.cb_model.specs.Bits.{Bits}
-use Rattle.cb_model.specs.Values.{Ground, Bit, Int, Valuation, World, expr_value}
-use Rattle.cb_model.specs.Equations.{Item, Pair, Sat, Solvable}
-use Rattle.cb_model.specs.Program.{Program}
-use Rattle.cb_model.specs.Derivation.{Branch}
+use Rattle.cb_model.specs.Values.{Ground, Bit, Int, Valuation, expr_value}
+use Rattle.cb_model.specs.Equations.{Sat, Solvable}
 use Rattle.cb_model.specs.Answers.{IsShape, Gives, Picks, with_opens}
-use Rattle.cb_model.specs.Line.{Names, IsLine, told}
+use Rattle.cb_model.specs.Line.{IsLine, told}
 use Rattle.cb_laws.proofs.Values.{expr_values, tree_values, value-leaf}
 use Rattle.cb_laws.proofs.Tables.{bits_equal, zero_fits}
 use Rattle.cb_laws.proofs.Shapes.{shape_values, text_values}

@@ -1,13 +1,8 @@
 -- The plain derivation of the query `X = a`.
 use Rattle.std.proofs.Common.{[], ◌∷◌, refl, inl}
-use Rattle.cb_model.specs.declared.Sort.TheVariants as sort
-use Rattle.cb_model.specs.declared.Expr.TheVariants as expr
-use Rattle.cb_model.specs.declared.Tree.TheVariants as tree
-use Rattle.cb_model.specs.declared.Goal.TheVariants as goal
 use Rattle.cb_model.specs.Bits.{none}
-use Rattle.cb_model.specs.Equations.{Item, Pair, Solvable}
-use Rattle.cb_model.specs.Program.{Program, no_program}
-use Rattle.cb_model.specs.Derivation.{Query, Branch, Run, Made, Printed, Answered, Adds, Goes, here, on, whole, Whole, Plain, runs, first_branch}
+use Rattle.cb_model.specs.Equations.{Solvable}
+use Rattle.cb_model.specs.Derivation.{Run, Made, Printed, Answered, Adds, Goes, here, on, whole, Whole, Plain, runs, first_branch}
 use Rattle.cb_laws.proofs.Values.{expr_values, tree_values}
 use Rattle.cb_laws.proofs.Tables.{with_bits, zero_fits}
 use Rattle.cb_rows.specs.PlainRow.{p, item, q, answer}

@@ -1,20 +1,12 @@
 -- `~X = X` over an empty file: what the first branch and the branch that is dropped allow as a stop for nodes.
 use Rattle.std.proofs.Common.{◌≡◌, ◌<◌, Bool, true, false, not, List, [], ◌∷◌, refl, subst, inl, inr, codes, arith, lit<}
-use Rattle.cb_model.specs.declared.Sort.TheVariants as sort
-use Rattle.cb_model.specs.declared.Expr.{Expr}
 use Rattle.cb_model.specs.declared.Expr.TheVariants as expr
 use Rattle.cb_model.specs.declared.Tree.TheVariants as tree
-use Rattle.cb_model.specs.declared.Goal.TheVariants as goal
 use Rattle.cb_model.specs.Values.{Ground, Int}
-use Rattle.cb_model.specs.Equations.{Pair, Solvable, SolvedAt}
-use Rattle.cb_model.specs.Program.{Program, no_program}
-use Rattle.cb_model.specs.Derivation.{Query, Branch, Made, here, extended, resolved, with_circuit, first_branch}
-use Rattle.cb_model.specs.declared.Circuit.{Circuit}
-use Rattle.cb_model.specs.Circuits.{Module, Instance}
-use Rattle.cb_model.specs.Facts.{Circuits, no_circuits, with_module}
-use Rattle.cb_model.specs.Text.{Text}
+use Rattle.cb_model.specs.Equations.{Solvable, SolvedAt}
+use Rattle.cb_model.specs.Program.{no_program}
+use Rattle.cb_model.specs.Derivation.{Made, here, resolved, with_circuit, first_branch}
 use Rattle.cb_model.specs.Answers.{IsShape, with_opens}
-use Rattle.cb_model.specs.Line.{Names}
 use Rattle.cb_model.specs.Room.{BelowRoom, room_with, branch_size, expr_size}
 use Rattle.cb_model.specs.Output.{QuerySays, few, no_lines, room_of}
 use Rattle.cb_laws.proofs.Values.{expr_values, tree_values}
@@ -22,7 +14,7 @@ use Rattle.cb_laws.proofs.Tables.{bits_equal, with_bits, zero_fits}
 use Rattle.cb_laws.proofs.Shapes.{shape_values, size_values}
 use Rattle.std.specs.Prelude.{pos, None, sum_by}
 use Rattle.cb_model.specs.Commands.{Only}
-use Rattle.cb_rows.specs.RoomRow.{X, p, q, names, dropped, times, name_program, name_query, name_behind, bare, bare_program, bare_query, of, half_adder, circuits, A, B}
+use Rattle.cb_rows.specs.RoomRow.{X, p, q, names, dropped, times, name_program, name_behind, bare, bare_program, bare_query, circuits, A, B}
 
 other_bit : (x : Bool) → not x ≡ x → ⊥
 other_bit true e = absurd (cc)

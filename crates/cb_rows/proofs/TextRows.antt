@@ -1,18 +1,16 @@
 -- Texts: their tokens, byte by byte, their readings and their faults.
-use Rattle.std.proofs.Common.{◌≡◌, ◌≢◌, ℕ, zero, suc, ◌+◌, ◌-◌, ◌<◌, ◌≤◌, Bool, true, false, ◌&&◌, nat_lt, List, [], ◌∷◌, ◌++◌, length, take, get_or, refl, sym, ◌∙◌, ap, subst, codes, arith, rules, inl, inr, pos, lit<, lit≤}
-use Rattle.std.specs.Prelude.{Option, Some, None, All, FitsSigned, drop}
+use Rattle.std.proofs.Common.{◌≡◌, ℕ, zero, suc, ◌<◌, true, false, nat_lt, List, [], ◌∷◌, ◌++◌, length, take, get_or, refl, sym, ◌∙◌, ap, subst, codes, arith, rules, inl, inr, pos, lit<, lit≤}
+use Rattle.std.specs.Prelude.{Some, None, All, FitsSigned, drop}
 use Rattle.std.specs.Int.{w64}
 use Rattle.std.specs.List.{list_all}
 use Rattle.std.proofs.lemmas.List.Elements.{All-cons, All-nil}
-use Rattle.cb_model.specs.declared.Kind.{Kind}
 use Rattle.cb_model.specs.declared.Kind.TheVariants as kind
-use Rattle.cb_model.specs.Text.{Text}
 use Rattle.cb_model.specs.Tokens.{Token, Lexes, ended, layout, comment, token, number, quote, byte, Byte, Number, Quote}
-use Rattle.cb_model.specs.Grammar.{Form, Forms, Integer, Variable, Name, Not, And, Xor, Or, Last, More, one, Op, Plus, Hash, Star, Sym, Chain, Unary, Prim, Call, Exprs, Reads, a_chain, no_operand, operand, a_not, a_prim, a_variable, an_integer, an_atom, a_compound, exprs, no_comma, FormClause, Rule, ReadsClause, directive, fact, rule, ReadsGoal, equals, ReadsGoals, last_goal, ReadsQuery, a_query, ReadsAll, no_more, one_more, CanGoOn, FirstWrong, FirstDeep, nestings, last_line, IsReading, whole, lexed, syntax_at, unfinished, Whole, Lexed, Syntax, Unfinished}
+use Rattle.cb_model.specs.Grammar.{Form, Forms, Integer, Variable, Name, Not, And, Last, More, one, Op, Plus, Hash, Star, Chain, Unary, Prim, Call, Exprs, Reads, a_chain, no_operand, operand, a_not, a_prim, a_variable, an_integer, an_atom, a_compound, exprs, no_comma, FormClause, Rule, ReadsClause, directive, fact, rule, equals, last_goal, ReadsQuery, a_query, ReadsAll, no_more, one_more, CanGoOn, FirstWrong, FirstDeep, nestings, IsReading, whole, lexed, syntax_at, unfinished, Whole, Syntax, Unfinished}
 use Rattle.cb_laws.proofs.Tables.{zero_fits}
 use Rattle.cb_laws.proofs.Decided.{and_true}
 use Rattle.cb_laws.proofs.OneReading.{one_way, one_clause, call_view, CallView, head_kind, goes_on}
-use Rattle.cb_rows.specs.TextExamples.{token_at, two_lines, two_lines_tokens, two_clauses, operators, operators_query, no_clause, times, deep, TextExamples}
+use Rattle.cb_rows.specs.TextExamples.{token_at, two_lines, two_lines_tokens, two_clauses, operators, operators_query, no_clause, deep, TextExamples}
 use Rattle.cb_rows.proofs.LexRow.{longest, no_token}
 
 -- ---- two lines

@@ -1,6 +1,5 @@
 -- The plain derivation of `p(X), X = 1` over `p(0). p(1).`: the first clause fails at the equation, the second answers.
-use Rattle.std.proofs.Common.{◌≡◌, ℕ, true, false, List, [], ◌∷◌, refl, sym, ◌∙◌, ap, inl, inr}
-use Rattle.cb_model.specs.declared.Sort.TheVariants as sort
+use Rattle.std.proofs.Common.{◌≡◌, ℕ, true, false, [], ◌∷◌, refl, sym, ◌∙◌, ap, inl, inr}
 use Rattle.cb_model.specs.declared.Expr.{Expr}
 use Rattle.cb_model.specs.declared.Expr.TheOpen.{Expr-F}
 use Rattle.cb_model.specs.declared.Expr.TheVariants as expr
@@ -9,16 +8,14 @@ use Rattle.cb_model.specs.declared.Tree.{Tree}
 use Rattle.cb_model.specs.declared.Tree.TheOpen.{Tree-F}
 use Rattle.cb_model.specs.declared.Tree.TheVariants as tree
 use Rattle.cb_model.specs.declared.Tree.TheFolds.{fold-roll-Tree}
-use Rattle.cb_model.specs.declared.Goal.TheVariants as goal
-use Rattle.cb_model.specs.declared.Clause.{Clause}
 use Rattle.cb_model.specs.Bits.{none}
 use Rattle.cb_model.specs.Values.{Ground, Name, More}
-use Rattle.cb_model.specs.Equations.{Pair, Solvable, Refuted}
-use Rattle.cb_model.specs.Program.{Program, shift_expr, shift_expr_step, shift_tree, shift_tree_step}
-use Rattle.cb_model.specs.Derivation.{Query, Branch, Run, Try, Made, Printed, Note, Answered, Becomes, Adds, Goes, here, on, whole, Whole, Plain, runs, extended, resolved, first_branch}
+use Rattle.cb_model.specs.Equations.{Solvable, Refuted}
+use Rattle.cb_model.specs.Program.{shift_expr, shift_expr_step, shift_tree, shift_tree_step}
+use Rattle.cb_model.specs.Derivation.{Run, Try, Made, Answered, Becomes, Adds, Goes, here, on, whole, Whole, Plain, runs, first_branch}
 use Rattle.cb_laws.proofs.Values.{expr_values, tree_values}
 use Rattle.cb_laws.proofs.Tables.{with_bits, zero_fits, bits_equal}
-use Rattle.cb_rows.specs.TryRow.{X, one, fact, p, q, behind, called, equated, notes}
+use Rattle.cb_rows.specs.TryRow.{X, fact, p, q, behind, called, equated, notes}
 
 pub shift-zero : (k : ℕ) → shift_expr k expr.Zero ≡ expr.Zero
 shift-zero k = ap (shift_expr k) (sym expr.rolls-Zero) ∙ fold-roll-Expr Expr (shift_expr_step k) Expr-F.Zero

@@ -1,5 +1,5 @@
 -- A demon takes the first of two rules that match.
-use Rattle.std.proofs.Common.{◌≡◌, ℕ, ◌<◌, false, List, [], ◌∷◌, refl, inl, codes, arith}
+use Rattle.std.proofs.Common.{false, [], ◌∷◌, refl, inl, codes, arith}
 use Rattle.cb_model.specs.declared.Goal.TheVariants as goal
 use Rattle.cb_model.specs.Bits.{none}
 use Rattle.cb_model.specs.Equations.{Solvable}

@@ -1,12 +1,12 @@
 -- Two goals are woken at once.
-use Rattle.std.proofs.Common.{◌≡◌, ℕ, Bool, true, false, List, [], ◌∷◌, refl, sym, ◌∙◌, inl, inr, codes}
+use Rattle.std.proofs.Common.{◌≡◌, Bool, true, false, [], ◌∷◌, refl, sym, ◌∙◌, inl, inr, codes}
 use Rattle.cb_model.specs.declared.Expr.TheVariants as expr
 use Rattle.cb_model.specs.declared.Tree.TheVariants as tree
 use Rattle.cb_model.specs.declared.Goal.TheVariants as goal
 use Rattle.cb_model.specs.Bits.{none, yes_here}
 use Rattle.cb_model.specs.Values.{Bit}
 use Rattle.cb_model.specs.Equations.{Pair, Meets, Solvable}
-use Rattle.cb_model.specs.Derivation.{Branch, Run, Made, Note, Becomes, Dropped, Adds, Goes, here, on, whole, Whole, runs, WordsHold, waits, extended, first_branch}
+use Rattle.cb_model.specs.Derivation.{Branch, Run, Made, Becomes, Dropped, Adds, Goes, here, on, whole, Whole, runs, WordsHold, waits, extended, first_branch}
 use Rattle.cb_model.specs.Output.{QuerySays, all, no_lines}
 use Rattle.cb_model.specs.Commands.{Max}
 use Rattle.cb_laws.proofs.Values.{expr_values, tree_values}

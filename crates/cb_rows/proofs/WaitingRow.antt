@@ -8,7 +8,7 @@ use Rattle.cb_model.specs.Bits.{Bits, bits_of}
 use Rattle.cb_model.specs.Values.{Ground, Int, Valuation}
 use Rattle.cb_model.specs.Derivation.{Branch, waits, Whole}
 use Rattle.cb_model.specs.Answers.{IsShape, Gives, Gen, values}
-use Rattle.cb_model.specs.Line.{Names, IsLine, told}
+use Rattle.cb_model.specs.Line.{IsLine, told}
 use Rattle.cb_model.specs.Commands.{Max}
 use Rattle.cb_model.specs.Output.{QuerySays, all, no_lines, more_lines}
 use Rattle.cb_laws.proofs.Values.{expr_values, tree_values}

@@ -1,20 +1,13 @@
 -- `inv(X, Y), X = 1` with `:- delay inv(const, any). inv(0, 1). inv(1, 0).`: the goal waits, is woken, and its second clause answers.
 use Rattle.std.proofs.Common.{◌≡◌, Bool, true, false, ◌==◌, List, [], ◌∷◌, refl, sym, ◌∙◌, ap, inl, inr, codes}
-use Rattle.cb_model.specs.declared.Sort.TheVariants as sort
-use Rattle.cb_model.specs.declared.When.TheVariants as when
 use Rattle.cb_model.specs.declared.Expr.{Expr}
 use Rattle.cb_model.specs.declared.Expr.TheVariants as expr
-use Rattle.cb_model.specs.declared.Tree.{Tree}
-use Rattle.cb_model.specs.declared.Tree.TheVariants as tree
-use Rattle.cb_model.specs.declared.Goal.{Goal}
 use Rattle.cb_model.specs.declared.Goal.TheVariants as goal
-use Rattle.cb_model.specs.declared.Clause.{Clause}
 use Rattle.cb_model.specs.Bits.{none, yes_here}
 use Rattle.cb_model.specs.Values.{Bit}
 use Rattle.cb_model.specs.Equations.{Pair, Meets, Solvable, Refuted}
-use Rattle.cb_model.specs.Program.{Program}
-use Rattle.cb_model.specs.Derivation.{Query, Branch, Run, Try, Made, Printed, Note, Answered, Becomes, Adds, Goes, here, on, whole, Whole, runs, Ready, waits, extended, resolved, first_branch, Ends, stops, Stopped, Resolutions}
-use Rattle.cb_model.specs.Line.{Names, IsLine, told}
+use Rattle.cb_model.specs.Derivation.{Branch, Run, Try, Made, Printed, Note, Answered, Becomes, Adds, Goes, here, on, whole, Whole, runs, Ready, waits, extended, resolved, first_branch, Ends, stops, Stopped, Resolutions}
+use Rattle.cb_model.specs.Line.{IsLine, told}
 use Rattle.cb_model.specs.Commands.{Max}
 use Rattle.cb_model.specs.Output.{QuerySays, all, no_lines, more_lines}
 use Rattle.cb_laws.proofs.Values.{expr_values, tree_values}

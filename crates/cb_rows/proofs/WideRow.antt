@@ -2,22 +2,21 @@
 use Rattle.std.proofs.Common.{◌≡◌, ℕ, zero, suc, ◌+◌, ◌<◌, Bool, true, false, ◌||◌, nat_lt, List, [], ◌∷◌, ◌++◌, map, length, refl, sym, ◌∙◌, ap, subst, inl, codes, arith, rules, pos}
 use Rattle.std.specs.Prelude.{Some, None, flat_map, sum_by}
 use Rattle.std.specs.List.{list_all}
-use Rattle.cb_model.specs.declared.Expr.{Expr}
 use Rattle.cb_model.specs.declared.Expr.TheVariants as expr
 use Rattle.cb_model.specs.declared.Tree.{Tree}
 use Rattle.cb_model.specs.declared.Tree.TheVariants as tree
 use Rattle.cb_model.specs.Bits.{Bits, none, numbers, numbers_from}
 use Rattle.cb_model.specs.Values.{Word, Int, Valuation, expr_value, tree_value}
-use Rattle.cb_model.specs.Equations.{Item, Pair, Meets, Solvable, Sat}
+use Rattle.cb_model.specs.Equations.{Pair, Meets, Solvable}
 use Rattle.cb_model.specs.Derivation.{Branch, Run, Made, Printed, Answered, Adds, Goes, here, on, whole, Whole, runs, extended, first_branch}
-use Rattle.cb_model.specs.Answers.{IsShape, leaves, opens, is_leaf, is_open, InOrder, values, with_opens}
+use Rattle.cb_model.specs.Answers.{IsShape, leaves, is_leaf, InOrder, values, with_opens}
 use Rattle.cb_model.specs.Line.{IsLine, wide, is_wide, places}
 use Rattle.cb_model.specs.Output.{QuerySays, all, no_lines, more_lines}
 use Rattle.cb_model.specs.Commands.{Max}
 use Rattle.cb_laws.proofs.Values.{value-zero, value-bus}
 use Rattle.cb_laws.proofs.Tables.{zero_fits}
 use Rattle.cb_laws.proofs.Shapes.{leaf-var, open-bus, places-bus}
-use Rattle.cb_laws.proofs.OpenTrees.{Plains, ABus, Nil, Cons, shape_leaves, shape_opens, plain_value, value_closed}
+use Rattle.cb_laws.proofs.OpenTrees.{Plains, ABus, Nil, Cons, shape_leaves, shape_opens, value_closed}
 use Rattle.cb_rows.specs.WideRow.{zeros, p, q, names, shape}
 
 abbrev terms : List Tree

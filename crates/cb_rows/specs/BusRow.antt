@@ -1,24 +1,13 @@
 -- `q(B, X)` over `:- sorts q(bus, term). q(B, X).`: one counter numbers the open places of both sorts.
-use Rattle.std.specs.Prelude.{◌≡◌, ℕ, suc, zero, ◌+◌, Bool, true, false, List, [], ◌∷◌, map, codes, Some, None, pos}
-use Rattle.std.specs.Fmt.{digits}
+use Rattle.std.specs.Prelude.{false, List, [], ◌∷◌, codes, Some}
 use Rattle.cb_model.specs.declared.Sort.TheVariants as sort
 use Rattle.cb_model.specs.declared.Tree.{Tree}
 use Rattle.cb_model.specs.declared.Tree.TheVariants as tree
-use Rattle.cb_model.specs.declared.Tree.TheOpen.{Tree-F}
-use Rattle.cb_model.specs.declared.Tree.TheFolds.{fold-roll-Tree}
 use Rattle.cb_model.specs.declared.Goal.TheVariants as goal
 use Rattle.cb_model.specs.declared.Clause.{Clause}
-use Rattle.cb_model.specs.Bits.{none}
-use Rattle.cb_model.specs.Values.{Valuation}
-use Rattle.cb_model.specs.Equations.{Solvable, Sat}
-use Rattle.cb_model.specs.Program.{Program, shift_tree, shift_tree_step}
-use Rattle.cb_model.specs.Derivation.{Query, Branch, Run, Try, Made, Printed, Answered, Becomes, Adds, Goes, here, on, whole, Whole, runs, resolved, first_branch}
-use Rattle.cb_model.specs.Answers.{IsShape, InOrder}
-use Rattle.cb_model.specs.Line.{Names, IsLine, told}
-use Rattle.cb_model.specs.Commands.{Max}
-use Rattle.cb_model.specs.Output.{QuerySays, all, no_lines, more_lines}
-use Rattle.cb_model.specs.declared.Expr.{Expr}
-use Rattle.cb_model.specs.Program.{shift_expr}
+use Rattle.cb_model.specs.Program.{Program}
+use Rattle.cb_model.specs.Derivation.{Query, Branch, resolved, first_branch}
+use Rattle.cb_model.specs.Line.{Names}
 
 abbrev pub args : List Tree
 args = tree.Bus [] (Some 0) ∷ tree.Var 1 ∷ []

@@ -1,5 +1,5 @@
 -- Worked circuits: gates, flattening, outputs, differences, and the lines of comparisons.
-use Rattle.std.specs.Prelude.{◌≡◌, ℕ, zero, ◌++◌, ◌||◌, ◌&&◌, not, Bool, true, false, List, [], ◌∷◌, map, codes, get_or}
+use Rattle.std.specs.Prelude.{◌≡◌, ℕ, zero, ◌++◌, ◌||◌, ◌&&◌, not, true, false, List, [], ◌∷◌, map, codes, get_or}
 use Rattle.cb_model.specs.declared.GateKind.TheVariants as gate
 use Rattle.cb_model.specs.declared.GateKind.{GateKind}
 use Rattle.cb_model.specs.declared.Gate.{Gate}
@@ -9,7 +9,7 @@ use Rattle.cb_model.specs.declared.Expr.TheVariants as expr
 use Rattle.cb_model.specs.declared.Outcome.TheVariants as outcome
 use Rattle.cb_model.specs.Bits.{rows, weight}
 use Rattle.cb_model.specs.Text.{Text}
-use Rattle.cb_model.specs.Circuits.{gate_value, Module, Instance, Flat, flats, circuit_of, no_flat, Outputs, BySpec}
+use Rattle.cb_model.specs.Circuits.{gate_value, Module, Instance, flats, circuit_of, no_flat, Outputs, BySpec}
 use Rattle.cb_model.specs.Answers.{value_text}
 use Rattle.cb_model.specs.Adder.{adder_text}
 use Rattle.cb_model.specs.Verdicts.{differs_text, Compared}

@@ -1,5 +1,5 @@
 -- The plain derivation of `inv(X, Y)` with `:- delay inv(const, any).`: the goal waits, and the branch is an answer.
-use Rattle.std.specs.Prelude.{◌≡◌, ℕ, suc, zero, ◌+◌, Bool, true, false, List, [], ◌∷◌, map, codes, Some, None, pos}
+use Rattle.std.specs.Prelude.{false, [], ◌∷◌, codes}
 use Rattle.cb_model.specs.declared.Sort.TheVariants as sort
 use Rattle.cb_model.specs.declared.When.TheVariants as when
 use Rattle.cb_model.specs.declared.Expr.TheVariants as expr
@@ -7,11 +7,9 @@ use Rattle.cb_model.specs.declared.Tree.{Tree}
 use Rattle.cb_model.specs.declared.Tree.TheVariants as tree
 use Rattle.cb_model.specs.declared.Goal.{Goal}
 use Rattle.cb_model.specs.declared.Goal.TheVariants as goal
-use Rattle.cb_model.specs.Values.{Bit}
-use Rattle.cb_model.specs.Equations.{Meets}
 use Rattle.cb_model.specs.Program.{Program}
 use Rattle.cb_model.specs.Line.{Names}
-use Rattle.cb_model.specs.Derivation.{Query, Branch, Run, Made, Printed, Answered, Becomes, Goes, here, on, whole, Whole, Plain, runs, Ready, waits, first_branch}
+use Rattle.cb_model.specs.Derivation.{Query, Branch, first_branch}
 
 abbrev pub X : Tree
 X = tree.Leaf (expr.Var 0)

@@ -1,25 +1,16 @@
 -- `andd(a, Y, Z), Y = a` with the demon rules `andd(0, Y, Z) :- Z = 0.` and `andd(X, X, Z) :- Z = X.`: the demon waits, and then
 -- commits to its second rule.
-use Rattle.std.specs.Prelude.{◌≡◌, ℕ, suc, zero, ◌+◌, Bool, true, false, List, [], ◌∷◌, map, codes, Some, None, pos}
-use Rattle.std.specs.Fmt.{digits}
+use Rattle.std.specs.Prelude.{ℕ, true, List, [], ◌∷◌, codes}
 use Rattle.cb_model.specs.declared.Sort.TheVariants as sort
-use Rattle.cb_model.specs.declared.Expr.{Expr}
 use Rattle.cb_model.specs.declared.Expr.TheVariants as expr
-use Rattle.cb_model.specs.declared.Expr.TheOpen.{Expr-F}
-use Rattle.cb_model.specs.declared.Expr.TheFolds.{fold-roll-Expr}
 use Rattle.cb_model.specs.declared.Tree.{Tree}
 use Rattle.cb_model.specs.declared.Tree.TheVariants as tree
 use Rattle.cb_model.specs.declared.Goal.{Goal}
 use Rattle.cb_model.specs.declared.Goal.TheVariants as goal
 use Rattle.cb_model.specs.declared.Clause.{Clause}
-use Rattle.cb_model.specs.Bits.{none, yes_here, Bits, put}
-use Rattle.cb_model.specs.Values.{Bit, Valuation}
-use Rattle.cb_model.specs.Equations.{Pair, Item, Meets, Solvable}
-use Rattle.cb_model.specs.Program.{Program, shift_expr, shift_expr_step, shift_tree}
-use Rattle.cb_model.specs.Derivation.{Query, Branch, Run, Made, Printed, Note, Answered, Becomes, Adds, Goes, here, on, whole, Whole, runs, Matches, RuleMatches, waits, extended, resolved, first_branch}
-use Rattle.cb_model.specs.Line.{Names, IsLine, told}
-use Rattle.cb_model.specs.Commands.{Max}
-use Rattle.cb_model.specs.Output.{QuerySays, all, no_lines, more_lines}
+use Rattle.cb_model.specs.Program.{Program}
+use Rattle.cb_model.specs.Derivation.{Query}
+use Rattle.cb_model.specs.Line.{Names}
 
 abbrev pub a : Tree
 a = tree.Leaf (expr.Const 0)

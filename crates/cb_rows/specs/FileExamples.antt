@@ -1,8 +1,8 @@
 -- Worked files: words of the command line, directives, sorts, facts and their refusals.
-use Rattle.std.specs.Prelude.{◌≡◌, ℕ, Bool, true, false, List, [], ◌∷◌, codes, Option, Some, None, option_map, pos}
+use Rattle.std.specs.Prelude.{◌≡◌, ℕ, List, [], ◌∷◌, codes, Option, Some, None, option_map}
 use Rattle.cb_model.specs.declared.Sort.TheVariants as sort
 use Rattle.cb_model.specs.Text.{Text}
-use Rattle.cb_model.specs.Grammar.{Form, Forms, Last, More, one, Name, Variable, Integer, Closed, FormGoal, ACall, AnEqual, FormClause, Directive, Rule}
+use Rattle.cb_model.specs.Grammar.{Form, Forms, Last, More, one, Name, Variable, Closed, FormGoal, ACall, AnEqual, FormClause, Directive}
 use Rattle.cb_model.specs.Commands.{command_of, Verify, Make, Max}
 use Rattle.cb_model.specs.Refusals.{usage, refusal_line}
 use Rattle.cb_model.specs.Circuits.{Module}

@@ -17,3 +17,4 @@ pub mod TwoRulesRow
 pub mod WideRow
 pub mod QueryExamples
 pub mod OutputExamples
+pub mod DetailExamples

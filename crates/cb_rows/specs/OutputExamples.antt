@@ -1,12 +1,14 @@
 -- Whole runs of the program, from the words and the bytes to the text and the outcome.
-use Rattle.std.specs.Prelude.{◌≡◌, ℕ, ◌++◌, Bool, true, false, List, [], ◌∷◌, codes, Some, None, pos}
+use Rattle.std.specs.Prelude.{ℕ, false, List, [], ◌∷◌, codes, Some, pos}
 use Rattle.cb_model.specs.declared.Sort.TheVariants as sort
 use Rattle.cb_model.specs.declared.Outcome.TheVariants as outcome
 use Rattle.cb_model.specs.Text.{Text, lines_text}
-use Rattle.cb_model.specs.Grammar.{Last, one, Name, Variable, Integer, FormGoal, ACall, AnEqual, FormClause, Directive, Rule}
-use Rattle.cb_model.specs.Commands.{command_of, Verify, Same, Check, Max, Only}
+use Rattle.cb_model.specs.Grammar.{Form, Last, More, one, Closed, Not, Name, Variable, Integer, FormGoal, ACall, AnEqual, FormClause, Directive, Rule}
+use Rattle.cb_model.specs.Circuits.{Module}
+use Rattle.cb_model.specs.declared.Expr.TheVariants as expr
+use Rattle.cb_model.specs.Commands.{command_of, Verify, Same, Max, Only}
 use Rattle.cb_model.specs.Directives.{Declared, nothing}
-use Rattle.cb_model.specs.Facts.{Circuits, no_circuits, with_module, with_spec}
+use Rattle.cb_model.specs.Facts.{Spec, no_circuits, with_module, with_spec}
 use Rattle.cb_model.specs.Line.{Names}
 use Rattle.cb_model.specs.Output.{Loaded, IsLoaded, LoadedSays, IsQuery, Output, OutputBegins, QuerySays, TakesBy}
 use Rattle.cb_rows.specs.TryRow as try
@@ -60,6 +62,32 @@ adders = record {
 abbrev pub two_adders : Loaded
 two_adders = record { clauses = []; declared = nothing; circuits = with_module (with_module no_circuits half_adder) full_adder }
 
+-- `module(h,[A],[Y],[not([A],[Y])]). spec(h,[A],[~A]).`
+abbrev pub not_file : Text
+not_file = codes "module(h,[A],[Y],[not([A],[Y])]). spec(h,[A],[~A])."
+
+-- a list of one net
+abbrev pub net : Text → Form
+net x = Closed (one (Variable x))
+
+-- its clauses
+abbrev pub not_clauses : List FormClause
+not_clauses =
+    Rule 1 (Name (codes "module") (More (Name (codes "h") Last) (More (net A) (More (net (codes "Y")) (one (Closed (one (Name (codes "not") (More (net A) (one (net (codes "Y")))))))))))) false [] ∷
+    Rule 1 (Name (codes "spec") (More (Name (codes "h") Last) (More (net A) (one (Closed (one (Not (Variable A)))))))) false [] ∷ []
+
+-- its module
+abbrev pub not_module : Module
+not_module = record { name = codes "h"; inputs = A ∷ []; outputs = codes "Y" ∷ []; instances = record { part = codes "not"; ins = A ∷ []; outs = codes "Y" ∷ [] } ∷ [] }
+
+-- its specification
+abbrev pub not_spec : Spec
+not_spec = record { name = codes "h"; inputs = A ∷ []; exprs = expr.Not (expr.Var 0) ∷ [] }
+
+-- what it holds
+abbrev pub not_loaded : Loaded
+not_loaded = record { clauses = not_clauses; declared = nothing; circuits = with_spec (with_module no_circuits not_module) not_spec }
+
 pub record OutputExamples : Type 0 where
   -- words of no form
   pub usage : Output (codes "make" ∷ codes "65" ∷ codes "1000" ∷ []) [] [] (lines_text (codes "error: usage" ∷ [])) (outcome.Refused 19)
@@ -84,3 +112,6 @@ pub record OutputExamples : Type 0 where
   pub no_module : LoadedSays (Same (codes "F") (codes "half_adder") (codes "x9") Max) [] adders (codes "error: no such module" ∷ []) (outcome.Refused 16)
   pub no_spec : LoadedSays (Verify (codes "F") (codes "full_adder") Max) [] two_adders (codes "error: no specification" ∷ []) (outcome.Refused 17)
   pub ports_differ : LoadedSays (Same (codes "F") (codes "half_adder") (codes "full_adder") Max) [] two_adders (codes "error: ports differ" ∷ []) (outcome.Refused 18)
+  -- a module and its specification, from the bytes of the file
+  pub accepted_module : IsLoaded not_file not_loaded
+  pub verified_file : Output (codes "verify" ∷ codes "F" ∷ codes "h" ∷ codes "max" ∷ []) not_file [] (lines_text (codes "verified h" ∷ [])) outcome.Done

@@ -1,18 +1,16 @@
 -- The answer line of `X * a = a`.
-use Rattle.std.specs.Prelude.{◌≡◌, ℕ, suc, zero, ◌+◌, Bool, true, false, List, [], ◌∷◌, map, codes, Some, None, pos}
-use Rattle.std.specs.Fmt.{digits}
+use Rattle.std.specs.Prelude.{List, [], ◌∷◌, codes, pos}
 use Rattle.cb_model.specs.declared.Sort.TheVariants as sort
 use Rattle.cb_model.specs.declared.Expr.{Expr}
 use Rattle.cb_model.specs.declared.Expr.TheVariants as expr
 use Rattle.cb_model.specs.declared.Tree.{Tree}
 use Rattle.cb_model.specs.declared.Tree.TheVariants as tree
 use Rattle.cb_model.specs.Bits.{Bits}
-use Rattle.cb_model.specs.Values.{Ground, Bit, Int, Valuation, World, expr_value}
-use Rattle.cb_model.specs.Equations.{Item, Pair, Sat, Solvable}
+use Rattle.cb_model.specs.Values.{Int, Valuation, World}
+use Rattle.cb_model.specs.Equations.{Item, Pair}
 use Rattle.cb_model.specs.Program.{Program}
 use Rattle.cb_model.specs.Derivation.{Branch}
-use Rattle.cb_model.specs.Answers.{IsShape, Gives, Picks, with_opens}
-use Rattle.cb_model.specs.Line.{Names, IsLine, told}
+use Rattle.cb_model.specs.Line.{Names}
 
 abbrev pub world : World
 world = record { arguments = [] }

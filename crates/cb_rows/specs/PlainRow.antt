@@ -1,13 +1,12 @@
 -- The plain derivation of the query `X = a`.
-use Rattle.std.specs.Prelude.{◌≡◌, ℕ, suc, zero, ◌+◌, Bool, true, false, List, [], ◌∷◌, map, codes, Some, None, pos}
+use Rattle.std.specs.Prelude.{[], ◌∷◌}
 use Rattle.cb_model.specs.declared.Sort.TheVariants as sort
 use Rattle.cb_model.specs.declared.Expr.TheVariants as expr
 use Rattle.cb_model.specs.declared.Tree.TheVariants as tree
 use Rattle.cb_model.specs.declared.Goal.TheVariants as goal
-use Rattle.cb_model.specs.Bits.{none}
-use Rattle.cb_model.specs.Equations.{Item, Pair, Solvable}
+use Rattle.cb_model.specs.Equations.{Item, Pair}
 use Rattle.cb_model.specs.Program.{Program, no_program}
-use Rattle.cb_model.specs.Derivation.{Query, Branch, Run, Made, Printed, Answered, Adds, Goes, here, on, whole, Whole, Plain, runs, first_branch}
+use Rattle.cb_model.specs.Derivation.{Query, Branch}
 
 abbrev pub p : Program
 p = no_program 1

@@ -1,10 +1,9 @@
 -- Worked queries: what the plain derivation does with them, and the lines that they print.
-use Rattle.std.specs.Prelude.{◌≡◌, ℕ, Bool, true, false, List, [], ◌∷◌, codes, Some}
+use Rattle.std.specs.Prelude.{◌≡◌, true, false, [], ◌∷◌, codes, Some}
 use Rattle.cb_model.specs.declared.Tree.TheVariants as tree
-use Rattle.cb_model.specs.Text.{Text}
-use Rattle.cb_model.specs.Commands.{Max, Only}
+use Rattle.cb_model.specs.Commands.{Max}
 use Rattle.cb_model.specs.Equations.{Sat, Part}
-use Rattle.cb_model.specs.Derivation.{Made, Printed, Whole, Plain, first_branch, waits}
+use Rattle.cb_model.specs.Derivation.{Made, Printed, Whole, Plain, first_branch}
 use Rattle.cb_model.specs.Answers.{IsShape}
 use Rattle.cb_model.specs.Line.{IsLine, is_wide}
 use Rattle.cb_model.specs.Output.{QuerySays}

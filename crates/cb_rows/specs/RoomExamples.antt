@@ -1,12 +1,12 @@
 -- Worked numbers of the two bounds on nodes.
-use Rattle.std.specs.Prelude.{◌≡◌, ◌+◌, Bool, true, false, List, [], ◌∷◌, codes, None, sum_by, get_or}
+use Rattle.std.specs.Prelude.{◌≡◌, Bool, true, false, List, [], ◌∷◌, codes, None, sum_by}
 use Rattle.cb_model.specs.declared.Expr.TheVariants as expr
 use Rattle.cb_model.specs.declared.Tree.TheVariants as tree
 use Rattle.cb_model.specs.Text.{Text}
 use Rattle.cb_model.specs.Commands.{Only}
 use Rattle.cb_model.specs.Program.{no_program}
 use Rattle.cb_model.specs.Derivation.{first_branch, resolved, with_circuit}
-use Rattle.cb_model.specs.Room.{BelowRoom, room, room_with, room_v, branch_size, expr_size, flat_pins, instance_pins}
+use Rattle.cb_model.specs.Room.{BelowRoom, room_with, branch_size, expr_size}
 use Rattle.cb_model.specs.Output.{QuerySays, room_of}
 use Rattle.cb_rows.specs.RoomRow.{p, q, names, dropped, times, name_program, name_behind, bare, bare_program, bare_query, circuits, A, B}
 

@@ -1,22 +1,18 @@
 -- `~X = X` over an empty file: what the first branch and the branch that is dropped allow as a stop for nodes.
-use Rattle.std.specs.Prelude.{◌≡◌, ℕ, suc, zero, ◌+◌, Bool, true, false, List, [], ◌∷◌, map, codes, Some, None, pos}
+use Rattle.std.specs.Prelude.{false, [], ◌∷◌, codes, None, pos}
 use Rattle.cb_model.specs.declared.Sort.TheVariants as sort
 use Rattle.cb_model.specs.declared.Expr.{Expr}
 use Rattle.cb_model.specs.declared.Expr.TheVariants as expr
 use Rattle.cb_model.specs.declared.Tree.TheVariants as tree
 use Rattle.cb_model.specs.declared.Goal.TheVariants as goal
-use Rattle.cb_model.specs.Values.{Ground, Int}
-use Rattle.cb_model.specs.Equations.{Pair, Solvable, SolvedAt}
+use Rattle.cb_model.specs.Equations.{Pair}
 use Rattle.cb_model.specs.Program.{Program, no_program}
-use Rattle.cb_model.specs.Derivation.{Query, Branch, Made, here, extended, resolved, with_circuit, first_branch}
+use Rattle.cb_model.specs.Derivation.{Query, Branch, extended, first_branch}
 use Rattle.cb_model.specs.declared.Circuit.{Circuit}
 use Rattle.cb_model.specs.Circuits.{Module, Instance}
 use Rattle.cb_model.specs.Facts.{Circuits, no_circuits, with_module}
 use Rattle.cb_model.specs.Text.{Text}
-use Rattle.cb_model.specs.Answers.{IsShape, with_opens}
 use Rattle.cb_model.specs.Line.{Names}
-use Rattle.cb_model.specs.Room.{BelowRoom, room_with, branch_size, expr_size}
-use Rattle.cb_model.specs.Output.{QuerySays, few, no_lines, room_of}
 
 abbrev pub X : Expr
 X = expr.Var 0

@@ -1,10 +1,10 @@
 -- Worked texts: tokens, clauses, nestings and the faults of a text.
-use Rattle.std.specs.Prelude.{◌≡◌, ℕ, ◌+◌, Bool, true, false, List, [], ◌∷◌, ◌++◌, codes, Option, Some, None, pos, negsuc}
+use Rattle.std.specs.Prelude.{◌≡◌, ℕ, false, List, [], ◌∷◌, ◌++◌, codes, Some, None, pos, negsuc}
 use Rattle.cb_model.specs.declared.Kind.{Kind}
 use Rattle.cb_model.specs.declared.Kind.TheVariants as kind
 use Rattle.cb_model.specs.Text.{Text}
-use Rattle.cb_model.specs.Tokens.{Token, spelled, Lexes, Fault, Byte, Number, Quote}
-use Rattle.cb_model.specs.Grammar.{Form, Integer, Variable, Name, And, Xor, Or, Not, Last, More, one, FormClause, FormQuery, FormGoal, AnEqual, Rule, ReadsClause, ReadsQuery, ReadsAll, FirstWrong, FirstDeep, nestings, last_line, IsReading, Reading, Whole, Lexed, Unfinished, Syntax}
+use Rattle.cb_model.specs.Tokens.{Token, spelled, Lexes, Byte, Number, Quote}
+use Rattle.cb_model.specs.Grammar.{Integer, Variable, Name, And, Xor, Or, Not, Last, More, one, FormClause, FormQuery, AnEqual, Rule, ReadsClause, ReadsQuery, ReadsAll, FirstWrong, FirstDeep, nestings, last_line, IsReading, Whole, Lexed, Unfinished, Syntax}
 
 -- a token with its text, its place and its line
 abbrev pub token_at : Kind → Text → ℕ → ℕ → ℕ → Token

@@ -1,21 +1,15 @@
 -- The plain derivation of `p(X), X = 1` over `p(0). p(1).`: the first clause fails at the equation, the second answers.
-use Rattle.std.specs.Prelude.{◌≡◌, ℕ, suc, zero, ◌+◌, Bool, true, false, List, [], ◌∷◌, map, codes, Some, None, pos}
+use Rattle.std.specs.Prelude.{false, List, [], ◌∷◌}
 use Rattle.cb_model.specs.declared.Sort.TheVariants as sort
 use Rattle.cb_model.specs.declared.Expr.{Expr}
-use Rattle.cb_model.specs.declared.Expr.TheOpen.{Expr-F}
 use Rattle.cb_model.specs.declared.Expr.TheVariants as expr
-use Rattle.cb_model.specs.declared.Expr.TheFolds.{fold-roll-Expr}
 use Rattle.cb_model.specs.declared.Tree.{Tree}
-use Rattle.cb_model.specs.declared.Tree.TheOpen.{Tree-F}
 use Rattle.cb_model.specs.declared.Tree.TheVariants as tree
-use Rattle.cb_model.specs.declared.Tree.TheFolds.{fold-roll-Tree}
 use Rattle.cb_model.specs.declared.Goal.TheVariants as goal
 use Rattle.cb_model.specs.declared.Clause.{Clause}
-use Rattle.cb_model.specs.Bits.{none}
-use Rattle.cb_model.specs.Values.{Ground, Name, More}
-use Rattle.cb_model.specs.Equations.{Pair, Solvable, Refuted}
-use Rattle.cb_model.specs.Program.{Program, shift_expr, shift_expr_step, shift_tree, shift_tree_step}
-use Rattle.cb_model.specs.Derivation.{Query, Branch, Run, Try, Made, Printed, Note, Answered, Becomes, Adds, Goes, here, on, whole, Whole, Plain, runs, extended, resolved, first_branch}
+use Rattle.cb_model.specs.Equations.{Pair}
+use Rattle.cb_model.specs.Program.{Program}
+use Rattle.cb_model.specs.Derivation.{Query, Branch, Made, Printed, Note, extended, resolved, first_branch}
 
 abbrev pub X : Tree
 X = tree.Leaf (expr.Var 0)

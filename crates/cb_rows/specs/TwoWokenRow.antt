@@ -1,6 +1,6 @@
 -- `p(X), q(X), X = 1` with `:- sorts p(bool), q(bool). :- delay p(const), q(const). q(X) :- r. r.`: the equation wakes both goals,
 -- and the one with the lesser number, which has no clause, runs first.
-use Rattle.std.specs.Prelude.{ℕ, false, List, [], ◌∷◌, codes}
+use Rattle.std.specs.Prelude.{ℕ, false, [], ◌∷◌, codes}
 use Rattle.cb_model.specs.declared.Sort.TheVariants as sort
 use Rattle.cb_model.specs.declared.When.TheVariants as when
 use Rattle.cb_model.specs.declared.Expr.TheVariants as expr

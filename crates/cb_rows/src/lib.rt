@@ -2,6 +2,7 @@
 #![tactic(auto)]
 
 ghost use Rattle.cb_rows.specs.CircuitExamples.{CircuitExamples};
+ghost use Rattle.cb_rows.specs.DetailExamples.{DetailExamples};
 ghost use Rattle.cb_rows.specs.FileExamples.{FileExamples};
 ghost use Rattle.cb_rows.specs.OutputExamples.{OutputExamples};
 ghost use Rattle.cb_rows.specs.QueryExamples.{QueryExamples};
@@ -11,6 +12,11 @@ ghost use Rattle.cb_rows.specs.TextExamples.{TextExamples};
 /// Worked circuits: gates, flattening, comparisons and the generated adder.
 pub fn circuit_examples()
     ensures { CircuitExamples }
+{}
+
+/// Small facts, each of which fixes one choice of a definition.
+pub fn detail_examples()
+    ensures { DetailExamples }
 {}
 
 /// Worked files: words, directives, sorts, facts and their refusals.

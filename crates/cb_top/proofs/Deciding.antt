@@ -1,5 +1,5 @@
 -- What is decided of a file, from its form and the verdict of the comparison.
-use Rattle.std.proofs.Common.{◌≡◌, ◌≢◌, ℕ, ◌-◌, ◌^◌, ◌≤◌, Bool, List, [], ◌∷◌, ◌++◌, codes, length, refl, sym, ap, subst, ◌∙◌, arith}
+use Rattle.std.proofs.Common.{◌≡◌, ℕ, ◌+◌, ◌*◌, ◌-◌, ◌^◌, ◌<◌, ◌≤◌, map, sum, Bool, List, [], ◌∷◌, ◌++◌, codes, length, Option, Some, None, MatchOption, Bor, refl, sym, ap, subst, ◌∙◌, arith}
 use Rattle.cb_model.specs.declared.Expr.{Expr}
 use Rattle.cb_model.specs.declared.Circuit.{Circuit}
 use Rattle.cb_model.specs.declared.Outcome.{Outcome}
@@ -7,13 +7,21 @@ use Rattle.cb_model.specs.declared.Outcome.TheVariants as outcome
 use Rattle.cb_model.specs.Text.{Text, name_text, lines_text}
 use Rattle.cb_model.specs.Circuits.{Module, flat, circuit_of, BySpec, Agrees, LeastDifference}
 use Rattle.cb_model.specs.FirstForm.{PairSpec, FirstForm, pair_exprs}
-use Rattle.cb_model.specs.Commands.{Nodes, Max, Only, IsNumber}
+use Rattle.cb_model.specs.Commands.{Nodes, Max, Only}
 use Rattle.cb_model.specs.Refusals.{refusal_line, unbuilt}
 use Rattle.cb_model.specs.Verdicts.{differs_text, agrees, differs, stopped}
-use Rattle.cb_model.specs.Built.{VerifySays, not_first, compared}
+use Rattle.cb_model.specs.Built.{VerifySays, not_first, compared, flat_room}
+use Rattle.cb_model.specs.Room.{room_v, circuit_pins, instance_pins, expr_size}
+use Rattle.cb_model.specs.Output.{BelowNodes}
+use Rattle.std.proofs.Math.Nat.{mul-le-mul_right}
 use Rattle.cb_top.specs.declared.lines.TheConstants.{STOPPED_NODES}
 use Rattle.cb_top.specs.Words.{budget_of}
-use Rattle.cb_top.specs.Answers.{Decides}
+use Rattle.cb_verify.specs.declared.Verdict.{Verdict}
+use Rattle.cb_verify.specs.declared.Verdict.TheVariants as verdict
+use Rattle.cb_verify.specs.Verdict.{IsRight}
+use Rattle.cb_circ.specs.declared.first.First.{First}
+use Rattle.cb_circ.specs.First.{IsFirstForm, IsNotFirstForm}
+use Rattle.cb_top.specs.Answers.{Decides, VerdictSays, FitsPorts}
 
 -- what was read of a file in the first form
 pub record WasRead (file name : Text) (circuit : Circuit) (ports : List Text) (exprs : List Expr) : Type 0 where
@@ -28,10 +36,16 @@ pub decides-unbuilt : (file name : Text) (nodes : Nodes) (text : Text) (o : Outc
     text ≡ lines_text (refusal_line unbuilt ∷ []) → o ≡ outcome.Refused 99 → Decides file name nodes text o
 decides-unbuilt file name nodes text o short none t e = record { lines = refusal_line unbuilt ∷ []; says = not_first short none (refl, e); is = t }
 
--- a budget that isn't the greatest is a number
-number-of : (nodes : Nodes) → (budget_of nodes ≡ 2 ^ 64 - 1 → ⊥) → IsNumber nodes
-number-of Max h = h refl
-number-of (Only n) h = tt
+-- more pins make the bound no less
+room_v-more : (g h s m n : ℕ) → room_v g s m n ≤ room_v (g + h) s m n
+room_v-more g h s m n =
+    let a : 16 * (g + s + m + n + 2) ≤ 16 * (g + h + s + m + n + 2) = omega arith in
+    mul-le-mul_right (4 ^ (n + 1)) a
+
+-- a budget that isn't the greatest, and is below one bound, is a number below another that is no less
+below-room : (nodes : Nodes) (a b : ℕ) → (budget_of nodes ≡ 2 ^ 64 - 1 → ⊥) → budget_of nodes < a → a ≤ b → BelowNodes nodes b
+below-room Max a b h l m = h refl
+below-room (Only n) a b h l m = omega arith
 
 module _ (file name : Text) (nodes : Nodes) (circuit : Circuit) (ports : List Text) (exprs : List Expr) (short : length file ≤ 4194304) (r : WasRead file name circuit ports exprs) where
   pub decides-verified : (text : Text) → Agrees circuit (BySpec exprs) → text ≡ lines_text ((codes "verified " ++ name_text name) ∷ []) → Decides file name nodes text outcome.Done
@@ -51,9 +65,36 @@ module _ (file name : Text) (nodes : Nodes) (circuit : Circuit) (ports : List Te
         is = t;
       }
 
-  pub decides-stopped : (text : Text) → (budget_of nodes ≡ 2 ^ 64 - 1 → ⊥) → text ≡ STOPPED_NODES.now → Decides file name nodes text outcome.Stopped
-  decides-stopped text h t = record { lines = codes "stopped: nodes" ∷ []; says = compared r.m r.s short r.form (stopped (number-of nodes h) refl); is = t }
+  pub decides-stopped : (text : Text) (o : Outcome) → (budget_of nodes ≡ 2 ^ 64 - 1 → ⊥) →
+      budget_of nodes < room_v (circuit_pins circuit) (sum (map expr_size exprs)) (length circuit.outputs) circuit.inputs → text ≡ STOPPED_NODES.now → o ≡ outcome.Stopped → Decides file name nodes text o
+  decides-stopped text o h l t e =
+      let c = circuit_of (flat [] r.m) in
+      let bound : List Expr → ℕ = λ es. sum (map expr_size es) in
+      let here : budget_of nodes < room_v (circuit_pins c) (bound exprs) (length c.outputs) c.inputs = subst (λ k. budget_of nodes < room_v (circuit_pins k) (bound exprs) (length k.outputs) k.inputs) r.circuit_is l in
+      let same : budget_of nodes < room_v (circuit_pins c) (bound (pair_exprs r.s)) (length c.outputs) c.inputs = subst (λ es. budget_of nodes < room_v (circuit_pins c) (bound es) (length c.outputs) c.inputs) r.exprs_are here in
+      let below : BelowNodes nodes (flat_room r.m (pair_exprs r.s)) =
+          below-room nodes _ _ h same (room_v-more (circuit_pins c) (instance_pins r.m) (bound (pair_exprs r.s)) (length c.outputs) c.inputs) in
+      subst (Decides file name nodes text) (sym e) (record { lines = codes "stopped: nodes" ∷ []; says = compared r.m r.s short r.form (stopped below refl); is = t })
 
   -- the input of a difference has a bit for each port
-  pub input-ports : (input : List Bool) (at : ℕ) (got wanted : Bool) → LeastDifference circuit (BySpec exprs) input at got wanted → length ports ≡ length input
+  input-ports : (input : List Bool) (at : ℕ) (got wanted : Bool) → LeastDifference circuit (BySpec exprs) input at got wanted → length ports ≡ length input
   input-ports input at got wanted h = ap length r.ports_are ∙ sym (h.width ∙ ap (λ c. c.inputs) r.circuit_is)
+
+  pub decides-verdict : (v : Verdict) (text : Text) (o : Outcome) → IsRight circuit (BySpec exprs) v → VerdictSays name ports v text o → Decides file name nodes text o
+  decides-verdict verdict.Verified text o h says = subst (Decides file name nodes text) (sym says.1) (decides-verified text h says.0)
+  decides-verdict (verdict.Differs input output got wanted) text o h says =
+      subst (Decides file name nodes text) (sym says.1) (decides-differs text input (output - 1) got wanted h.1 says.0)
+
+  pub fits-ports : (v : Verdict) → IsRight circuit (BySpec exprs) v → FitsPorts (length ports) v
+  fits-ports verdict.Verified h = tt
+  fits-ports (verdict.Differs input output got wanted) h = (input-ports input (output - 1) got wanted h.1, h.0)
+
+-- what `first_form` answers, as what was read
+pub was-read : (file name : Text) (o : Option First) (first : First) (names : List (Bor Text)) (spec : List Expr) → o ≡ Some first → names ≡ first.names → spec ≡ first.spec →
+    MatchOption o (IsNotFirstForm file name) (IsFirstForm file name) → WasRead file name first.circuit (map (λ p. p.now) names) spec
+was-read file name o first names spec e ns es h =
+    let k : IsFirstForm file name first = subst (λ x. MatchOption x (IsNotFirstForm file name) (IsFirstForm file name)) e h in
+    record { m = k.m; s = k.s; form = k.form; circuit_is = k.circuit; ports_are = ap (map (λ (p : Bor Text). p.now)) ns ∙ k.names; exprs_are = es ∙ k.spec }
+
+pub not-read : (file name : Text) (o : Option First) → o ≡ None → MatchOption o (IsNotFirstForm file name) (IsFirstForm file name) → IsNotFirstForm file name
+not-read file name o e h = subst (λ x. MatchOption x (IsNotFirstForm file name) (IsFirstForm file name)) e h

@@ -11,11 +11,13 @@ use Rattle.cb_model.specs.declared.Outcome.TheVariants as outcome
 use Rattle.cb_model.specs.declared.Side.{Side}
 use Rattle.cb_model.specs.declared.Side.TheVariants as side
 use Rattle.cb_model.specs.Text.{Text, lines_text, IsPrefix}
-use Rattle.cb_model.specs.Commands.{Command, Check, Run, Verify, Same, Make, Nodes, IsNumber, command_of, file_name}
+use Rattle.cb_model.specs.Commands.{Command, Check, Run, Verify, Same, Make, Nodes, Max, Only, IsNumber, command_of, file_name}
 use Rattle.cb_model.specs.Refusals.{Refused, Refuses, refusal_line, usage, unbuilt, file_too_long}
 use Rattle.cb_model.specs.Verdicts.{Compared, agrees, differs, stopped}
 use Rattle.cb_model.specs.Outside.{Rose, bytes_named}
-use Rattle.cb_model.specs.Built.{VerifySays, too_long, not_first, compared, CommandSays, Output, nothing_yet, begins, bytes_or, file_bytes}
+use Rattle.cb_model.specs.Built.{VerifySays, too_long, not_first, compared, CommandSays, Output, nothing_yet, begins, bytes_or, file_bytes, flat_room}
+use Rattle.cb_model.specs.FirstForm.{pair_exprs}
+use Rattle.cb_model.specs.Output.{BelowNodes}
 use Rattle.cb_model.specs.Top.{Appends, Prints, HasUsage, NamesNumber}
 use Rattle.cb_top.specs.declared.lines.TheConstants.{USAGE, FILE_TOO_LONG}
 use Rattle.cb_top.specs.Answers.{VerifyAnswers, Answers, BreaksOff, Finishes, whole, broken}
@@ -63,11 +65,15 @@ unbuilt-ends nodes lines o h =
     let q = refuses-other unbuilt lines o (λ (p : 99 ≡ 19). omega arith) h in
     record { ends = refuses-ends unbuilt lines o h; other = q.0; stops = λ p. absurd (q.1 p) }
 
+below-number : (nodes : Nodes) (n : ℕ) → BelowNodes nodes n → IsNumber nodes
+below-number Max n h = h
+below-number (Only k) n h = tt
+
 verify-ends : (file name : Text) (nodes : Nodes) (lines : List Text) (o : Outcome) → VerifySays file name nodes lines o → VerifyEnds nodes o
 verify-ends file name nodes lines o (too_long l h) = long-ends nodes lines o h
 verify-ends file name nodes lines o (not_first l n h) = unbuilt-ends nodes lines o h
 verify-ends file name nodes lines o (compared m s l f h) =
-    let q = compared-ends _ _ _ _ _ _ lines o h in record { ends = q.0; other = q.1; stops = q.2 }
+    let q = compared-ends _ _ _ _ _ _ lines o h in record { ends = q.0; other = q.1; stops = λ p. below-number nodes (flat_room m (pair_exprs s)) (q.2 p) }
 
 -- what an output says of its outcome
 pub record HasOutcome (c : Option Command) (o : Outcome) : Type 0 where

@@ -1,9 +1,12 @@
 -- What is decided before a byte is written, and how it is written.
-use Rattle.std.specs.Prelude.{◌≡◌, ◌⊎◌, ℕ, List, take, Option, Some}
+use Rattle.std.specs.Prelude.{◌≡◌, ◌⊎◌, ℕ, ◌-◌, ◌≤◌, List, [], ◌∷◌, ◌++◌, codes, length, take, Option, Some}
 use Rattle.cb_model.specs.declared.Outcome.{Outcome}
 use Rattle.cb_model.specs.declared.Outcome.TheVariants as outcome
 use Rattle.cb_model.specs.declared.Side.TheVariants as side
-use Rattle.cb_model.specs.Text.{Text, lines_text}
+use Rattle.cb_model.specs.Text.{Text, name_text, lines_text}
+use Rattle.cb_model.specs.Verdicts.{differs_text}
+use Rattle.cb_verify.specs.declared.Verdict.{Verdict}
+use Rattle.cb_verify.specs.declared.Verdict.TheVariants as verdict
 use Rattle.cb_model.specs.Commands.{Nodes}
 use Rattle.cb_model.specs.Outside.{Rose, Wrote, bytes_named}
 use Rattle.cb_model.specs.Built.{VerifySays, Output, file_bytes}
@@ -41,3 +44,15 @@ BreaksOff faults now result = (result ≡ outcome.Memory) ⊎ ((result ≡ outco
 pub data Finishes (before after : Option Text) (faults now : ℕ) (text : Text) (wanted result : Outcome) : Type 0 where
   whole : result ≡ wanted → Wrote before after text → Finishes before after faults now text wanted result
   broken : (n : ℕ) → result ≡ outcome.Fault side.Output → Wrote before after (take n text) → Rose faults now → Finishes before after faults now text wanted result
+
+-- the line and the outcome of a verdict
+abbrev pub VerdictSays : Text → List Text → Verdict → Text → Outcome → Type 0
+VerdictSays name ports verdict.Verified text result =
+    (text ≡ lines_text ((codes "verified " ++ name_text name) ∷ [])) × (result ≡ outcome.Done)
+VerdictSays name ports (verdict.Differs input output got wanted) text result =
+    (text ≡ lines_text (differs_text (name_text name) ports input (output - 1) got wanted ∷ [])) × (result ≡ outcome.Differs)
+
+-- the input of a verdict has a bit for each port
+abbrev pub FitsPorts : ℕ → Verdict → Type 0
+FitsPorts ports verdict.Verified = Unit {0}
+FitsPorts ports (verdict.Differs input output got wanted) = (ports ≡ length input) × (1 ≤ output)

@@ -8,10 +8,14 @@ ghost use Rattle.cb_model.specs.Refusals.{refusal_line, unbuilt};
 ghost use Rattle.cb_model.specs.Outside.{Rose};
 ghost use Rattle.cb_model.specs.Top.{Prints, HasUsage, NamesNumber};
 ghost use Rattle.cb_top.specs.Words.{nodes_view};
-ghost use Rattle.cb_top.specs.Answers.{line_bytes, Decides, VerifyAnswers, Answers, BreaksOff, Finishes};
+ghost use Rattle.cb_top.specs.Answers.{line_bytes, Decides, VerifyAnswers, Answers, BreaksOff, Finishes, VerdictSays, FitsPorts};
+ghost use Rattle.cb_top.specs.declared.lines.TheConstants.{STOPPED_NODES};
 
+use cb_circ::first_form;
+use cb_dd::Stop;
 use cb_host::{Files, Load, Sink, Source, write_all};
 pub use cb_model::{Outcome, Side};
+use cb_verify::{Verdict, compare};
 use std::alloc::{AllocError, Global};
 use words::{Command, Nodes};
 
@@ -81,6 +85,17 @@ impl Answer {
         }
     }
 
+    // The answer where the budget of nodes was reached.
+    fn stopped() -> Answer
+        ensures line { line_bytes result.line ≡ STOPPED_NODES.now }
+        ensures outcome { result.outcome ≡ Outcome.Stopped }
+    {
+        Answer {
+            line: Line::Fixed(lines::STOPPED_NODES),
+            outcome: Outcome::Stopped,
+        }
+    }
+
     // The answer where what is asked for isn't built yet.
     fn unbuilt() -> Answer
         ensures line { line_bytes result.line ≡ lines_text (refusal_line unbuilt ∷ []) }
@@ -136,7 +151,55 @@ fn decide(alloc: Global, name: &[u8], nodes: Nodes, bytes: &[u8]) -> Result<Answ
     requires { length bytes.now ≤ 4194304 }
     ensures { IfOk result (λ a. Decides bytes.now name.now (nodes_view nodes) (line_bytes a.line) a.outcome) }
 {
-    Err(AllocError)
+    let Some(first) = first_form(alloc, bytes, name)? else {
+        return Ok(Answer::unbuilt());
+    };
+    match compare(alloc, &first.circuit, first.spec.as_slice(), nodes.budget()) {
+        Ok(verdict) => verdict_answer(alloc, name, first.names.as_slice(), &verdict),
+        Err(Stop::Nodes) => Ok(Answer::stopped()),
+        Err(Stop::Memory) => Err(AllocError),
+    }
+}
+
+// The answer of a comparison.
+fn verdict_answer(
+    alloc: Global,
+    name: &[u8],
+    ports: &[&[u8]],
+    verdict: &Verdict,
+) -> Result<Answer, AllocError>
+    requires { FitsPorts (length ports.now) verdict.now }
+    ensures { IfOk result (λ a. VerdictSays name.now (map (λ p. p.now) ports.now) verdict.now (line_bytes a.line) a.outcome) }
+{
+    match verdict {
+        Verdict::Verified => {
+            let line = lines::verified_line(alloc, name)?;
+            Ok(Answer {
+                line: Line::Made(line),
+                outcome: Outcome::Done,
+            })
+        }
+        Verdict::Differs {
+            input,
+            output,
+            got,
+            wanted,
+        } => {
+            let line = lines::differs_line(
+                alloc,
+                name,
+                ports,
+                input.as_slice(),
+                *output,
+                *got,
+                *wanted,
+            )?;
+            Ok(Answer {
+                line: Line::Made(line),
+                outcome: Outcome::Differs,
+            })
+        }
+    }
 }
 
 // Writes the whole text; the outcome stands unless that fails.

@@ -1,0 +1,175 @@
+use cb_host::{MemFiles, MemSink, SureSource};
+use cb_top::chipbool;
+use std::alloc::Global;
+use std::test::Fail;
+
+const HALF_ADDER: &str = "module(half_adder, [A,B], [S,C], [xor([A,B],[S]), and([A,B],[C])]).\n\
+    spec(half_adder, [A,B], [A # B, A * B]).\n";
+
+const WITH_OR: &str = "module(half_adder, [A,B], [S,C], [xor([A,B],[S]), or([A,B],[C])]).\n\
+    spec(half_adder, [A,B], [A # B, A * B]).\n";
+
+// The status and the text of a run whose file `F` has these bytes, over a sink that takes `step` bytes a call and
+// fails at one of them.
+fn run(
+    alloc: Global,
+    line: &str,
+    file: &[u8],
+    step: usize,
+    failing: u64,
+) -> Result<(u8, Vec<u8>), Fail> {
+    let mut words = Vec::new(alloc);
+    for word in line.split_whitespace() {
+        words.push(String::from_str(alloc, word)?)?;
+    }
+    let mut list = Vec::new(alloc);
+    list.push((String::from_str(alloc, "F")?, Vec::from_slice(alloc, file)?))?;
+    let mut files = MemFiles::new(list, Vec::new(alloc));
+    let mut input = SureSource::new(Vec::new(alloc));
+    let mut out = MemSink::new(alloc, 1000, step.max(1), [failing].to_vec(alloc)?)?;
+    let outcome = chipbool(alloc, words.as_slice(), &mut files, &mut input, &mut out);
+    Ok((outcome.status(), Vec::from_slice(alloc, out.written())?))
+}
+
+#[test]
+fn verifies_half_adder(rt: HostRuntime) -> Result<(), Fail> {
+    for nodes in ["max", "24576", "16777216"] {
+        let line = format!(in rt.alloc(); "verify F half_adder {nodes}")?;
+        let (status, text) = run(rt.alloc(), line.as_str(), HALF_ADDER.as_bytes(), 1000, 0)?;
+        assert_eq!(rt;
+            text.as_slice(),
+            b"verified half_adder\n".as_slice(),
+            "{nodes}"
+        );
+        assert_eq!(rt; status, 0, "{nodes}");
+    }
+    Ok(())
+}
+
+#[test]
+fn reports_least_difference(rt: HostRuntime) -> Result<(), Fail> {
+    let (status, text) = run(
+        rt.alloc(),
+        "verify F half_adder max",
+        WITH_OR.as_bytes(),
+        1000,
+        0,
+    )?;
+    assert_eq!(rt;
+        text.as_slice(),
+        b"differs half_adder at A=0 B=1: output 2 is 1, wanted 0\n".as_slice()
+    );
+    assert_eq!(rt; status, 1);
+    Ok(())
+}
+
+#[test]
+fn stops_for_nodes(rt: HostRuntime) -> Result<(), Fail> {
+    let (status, text) = run(
+        rt.alloc(),
+        "verify F half_adder 1",
+        HALF_ADDER.as_bytes(),
+        1000,
+        0,
+    )?;
+    assert_eq!(rt; text.as_slice(), b"stopped: nodes\n".as_slice());
+    assert_eq!(rt; status, 3);
+    Ok(())
+}
+
+#[test]
+fn refuses_words(rt: HostRuntime) -> Result<(), Fail> {
+    for line in [
+        "",
+        "verify",
+        "verify F half_adder",
+        "verify F half_adder 0",
+        "verify F half_adder 05",
+        "verify F half_adder +5",
+        "verify F half_adder -5",
+        "verify F half_adder 5x",
+        "verify F half_adder 16777217",
+        "verify F half_adder 99999999999999999999999",
+        "verify F half_adder max 1",
+        "Verify F half_adder max",
+        "check",
+        "check F max",
+        "run F max 100",
+        "run F 10000001 max",
+        "same F one max",
+        "make 65 1000",
+        "make 0 1000",
+        "make max max",
+    ] {
+        let (status, text) = run(rt.alloc(), line, HALF_ADDER.as_bytes(), 1000, 0)?;
+        assert_eq!(rt; text.as_slice(), b"error: usage\n".as_slice(), "{line}");
+        assert_eq!(rt; status, 2, "{line}");
+    }
+    Ok(())
+}
+
+#[test]
+fn says_what_is_not_built(rt: HostRuntime) -> Result<(), Fail> {
+    for line in [
+        "check F",
+        "run F 10000000 1",
+        "same F half_adder half_adder max",
+        "make 64 max",
+        "verify F other max",
+    ] {
+        let (status, text) = run(rt.alloc(), line, HALF_ADDER.as_bytes(), 1000, 0)?;
+        assert_eq!(rt;
+            text.as_slice(),
+            b"error: not built yet\n".as_slice(),
+            "{line}"
+        );
+        assert_eq!(rt; status, 2, "{line}");
+    }
+    Ok(())
+}
+
+#[test]
+fn limits_the_file(rt: HostRuntime) -> Result<(), Fail> {
+    for (count, want) in [
+        (4194304, b"error: not built yet\n".as_slice()),
+        (4194305, b"error: file too long\n".as_slice()),
+    ] {
+        let file = vec![in rt.alloc(); b' '; count]?;
+        let (status, text) = run(rt.alloc(), "verify F m max", file.as_slice(), 1000, 0)?;
+        assert_eq!(rt; text.as_slice(), want, "{count}");
+        assert_eq!(rt; status, 2, "{count}");
+    }
+    Ok(())
+}
+
+#[test]
+fn writes_nothing_where_the_file_fails(rt: HostRuntime) -> Result<(), Fail> {
+    let (status, text) = run(
+        rt.alloc(),
+        "verify G half_adder max",
+        HALF_ADDER.as_bytes(),
+        1000,
+        0,
+    )?;
+    assert_eq!(rt; text.as_slice(), b"".as_slice());
+    assert_eq!(rt; status, 4);
+    Ok(())
+}
+
+#[test]
+fn leaves_a_front_of_the_line_where_the_output_fails(rt: HostRuntime) -> Result<(), Fail> {
+    let line = b"differs half_adder at A=0 B=1: output 2 is 1, wanted 0\n";
+    for k in 0..line.len() {
+        let failing = k as u64 + 1;
+        let (status, text) = run(
+            rt.alloc(),
+            "verify F half_adder max",
+            WITH_OR.as_bytes(),
+            1,
+            failing,
+        )?;
+        assert_eq!(rt; text.as_slice(), &line[..k], "{k}");
+        assert_eq!(rt; status, 4, "{k}");
+    }
+    Ok(())
+}

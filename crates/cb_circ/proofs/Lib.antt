@@ -1,0 +1,10 @@
+pub mod Places
+pub mod Flattened
+pub mod Firsts
+pub mod Reading
+pub mod Listed
+pub mod ListSteps
+pub mod FactSteps
+pub mod NetSteps
+pub mod NumberSteps
+pub mod FirstSteps

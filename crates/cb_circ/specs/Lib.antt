@@ -1,0 +1,5 @@
+pub mod Written
+pub mod Shapes
+pub mod Facts
+pub mod Numbers
+pub mod First

@@ -1,0 +1,129 @@
+//! Texts in the first form.
+ghost use Rattle.std.specs.Prelude.{◌≡◌, ◌+◌, ◌^◌, ◌<◌, ◌≤◌, Bool, List, true, map, length, ◌↔◌, IsTrue, IfOk, IfSome, MatchOption, MatchResult};
+ghost use Rattle.std.specs.List.{list_all};
+ghost use Rattle.cb_model.specs.Bits.{all_of};
+ghost use Rattle.cb_model.specs.Values.{in_scope};
+ghost use Rattle.cb_model.specs.Sound.{IsSound, HasOneValuation};
+ghost use Rattle.cb_model.specs.FirstForm.{is_spare};
+ghost use Rattle.cb_circ.specs.Written.{Refuses};
+ghost use Rattle.cb_circ.specs.Facts.{module_of, spec_of};
+ghost use Rattle.cb_circ.specs.Numbers.{IsWellMade, IsCircuitOf, Matches};
+ghost use Rattle.cb_circ.specs.First.{IsFirstForm, IsNotFirstForm, IsFirstTokens, IsNotFirstTokens};
+
+use crate::facts::{ModuleFact, SpecFact, facts};
+use crate::nets::Nets;
+use crate::numbering::{expressions, gates, numbers, table};
+use crate::stop::Stop;
+use cb_lex::{Token, one_token_list};
+use cb_model::{Circuit, Expr};
+use cb_nets::one_valuation;
+use cb_syntax::{TokensError, tokens};
+use sqlite_items::Items;
+use std::alloc::{AllocError, Global};
+
+/// A text in the first form: the flattened circuit of its module, the names of the inputs in port order, and the
+/// expressions of its specification, whose variables are the ports by number.
+#[derive(Drop)]
+pub struct First<'s> {
+    pub circuit: Circuit,
+    pub names: Items<&'s [u8]>,
+    pub spec: Items<Expr>,
+}
+
+/// The flattened circuit of a module of gates with two inputs.
+fn circuit(alloc: Global, fact: &ModuleFact<'_>) -> Result<Circuit, Stop>
+    requires { length fact.now.inputs + length fact.now.instances < 2 ^ 32 }
+    ensures { MatchResult result (IsCircuitOf (module_of fact.now)) (λ e. Refuses e (IsWellMade (module_of fact.now) → ⊥)) }
+{
+    let mut nets = table(alloc, fact.inputs.as_slice())?;
+    let inputs = fact.inputs.len() as u32;
+    let gates = gates(alloc, &mut nets, fact.instances.as_slice())?;
+    let outputs = numbers(alloc, &nets, fact.outputs.as_slice())?;
+    Ok(Circuit {
+        inputs,
+        nets: inputs + gates.len() as u32,
+        outputs,
+        gates,
+    })
+}
+
+/// Whether no byte is a tab, a carriage return or the beginning of a comment.
+fn is_spaced(source: &[u8]) -> bool
+    ensures { result ≡ list_all is_spare source.now }
+{
+    source
+        .iter()
+        .all(|x| *x != b'\t' && *x != b'\r' && *x != b'%')
+}
+
+/// Whether the two facts have the name, as many ports as inputs and as many pairs as outputs.
+fn is_match(fact: &ModuleFact<'_>, spec: &SpecFact<'_>, name: &[u8]) -> bool
+    ensures { IsTrue result ↔ Matches name.now (module_of fact.now) (spec_of spec.now) }
+{
+    if fact.name != name {
+        return false;
+    }
+    if spec.name != name {
+        return false;
+    }
+    if spec.ports.len() != fact.inputs.len() {
+        return false;
+    }
+    spec.pairs.len() == fact.outputs.len()
+}
+
+/// The circuit, the names and the expressions of a text, by its tokens.
+fn from_tokens<'s>(alloc: Global, tokens: &[Token<'s>], name: &[u8]) -> Result<First<'s>, Stop>
+    requires { length tokens.now < 2 ^ 32 }
+    ensures { MatchResult result (IsFirstTokens tokens.now name.now) (λ e. Refuses e (IsNotFirstTokens tokens.now name.now)) }
+{
+    let (fact, spec) = facts(alloc, tokens)?;
+    if !is_match(&fact, &spec, name) {
+        return Err(Stop::Other);
+    }
+    let circuit = circuit(alloc, &fact)?;
+    let ports = table(alloc, spec.ports.as_slice())?;
+    let expressions = expressions(alloc, &ports, spec.pairs.as_slice())?;
+    let ModuleFact { inputs, .. } = fact;
+    Ok(First {
+        circuit,
+        names: inputs,
+        spec: expressions,
+    })
+}
+
+/// The flattened circuit and the specification of a text in the first form for the name of its module; `None` where
+/// the text isn't in that form. The text has at most 4,194,304 bytes.
+pub fn first_form<'s>(
+    alloc: Global,
+    source: &'s [u8],
+    name: &[u8],
+) -> Result<Option<First<'s>>, AllocError>
+    requires { length source.now ≤ 4194304 }
+    ensures form { IfOk result (λ o. MatchOption o (IsNotFirstForm source.now name.now) (IsFirstForm source.now name.now)) }
+
+    // The circuit is one that a comparison takes, and its inputs determine the bits of all nets.
+    ensures sound { IfOk result (λ o. IfSome o (λ f. IsSound f.circuit)) }
+    ensures one_valuation { IfOk result (λ o. IfSome o (λ f. (input : List Bool) → length input ≡ f.circuit.inputs → HasOneValuation f.circuit input)) }
+
+    // There is a name for each input and an expression over the inputs for each output.
+    ensures named { IfOk result (λ o. IfSome o (λ f. length f.names ≡ f.circuit.inputs)) }
+    ensures wanted { IfOk result (λ o. IfSome o (λ f. length f.spec ≡ length f.circuit.outputs)) }
+    ensures scope { IfOk result (λ o. IfSome o (λ f. all_of (map (in_scope 0 f.circuit.inputs) f.spec) ≡ true)) }
+{
+    one_token_list();
+    one_valuation();
+    let tokens = match tokens(alloc, source) {
+        Ok(tokens) => tokens,
+        Err(TokensError::Memory) => return Err(AllocError),
+        Err(TokensError::Lex(_)) => return Ok(None),
+    };
+    if !is_spaced(source) {
+        return Ok(None);
+    }
+    match from_tokens(alloc, tokens.as_slice(), name) {
+        Ok(first) => Ok(Some(first)),
+        Err(Stop::Other) => Ok(None),
+        Err(Stop::Memory) => Err(AllocError),
+    }
+}

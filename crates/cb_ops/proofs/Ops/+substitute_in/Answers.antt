@@ -1,0 +1,63 @@
+use Rattle.std.proofs.Common.{◌≡◌, ◌<◌, ◌≤◌, ◌^◌, arith, sym, ap, ◌∙◌}
+use Rattle.cb_ops.proofs.Ite.{grown-node, grown-level, Grows-same, Grows-then}
+use Rattle.cb_ops.proofs.Substitute.{grown-nodes, substitute-constant, substitute-none, substitute-low, substitute-high, substitute-room, substitute-step, substitute-kept, substitute-grows, substitute-more}
+use Rattle.cb_ops.proofs.Ops.+substitute_in.Goals as goal
+
+pub returns-in_default-clause-function : goal.returns-in_default-clause-function
+returns-in_default-clause-function t c = substitute-constant c.args.self.now.triples c.args.list.now c.args.f.0 c.in_default.ensures.constant.1
+
+pub returns-in_default-clause-room : goal.returns-in_default-clause-room
+returns-in_default-clause-room t c = substitute-none c.args.f.0 c.args.list.now c.args.self.now
+
+pub returns-in-Some-recall_in-clause-is_node : goal.returns-in-Some-recall_in-clause-is_node
+returns-in-Some-recall_in-clause-is_node t c = (c.requires.done.right c.args.f c.in-Some-recall_in.r c.in-Some-recall_in.ensures).answer
+
+pub returns-in-Some-recall_in-clause-function : goal.returns-in-Some-recall_in-clause-function
+returns-in-Some-recall_in-clause-function t c = (c.requires.done.right c.args.f c.in-Some-recall_in.r c.in-Some-recall_in.ensures).is
+
+pub returns-in-Some-recall_in-clause-room : goal.returns-in-Some-recall_in-clause-room
+returns-in-Some-recall_in-clause-room t c = substitute-none c.args.f.0 c.args.list.now c.args.self.now
+
+pub returns-in_err-low-clause-room : goal.returns-in_err-low-clause-room
+returns-in_err-low-clause-room t c = substitute-low c.args.self.now c.substitute_in.new.self c.substitute_in.new.self c.substitute_in.new.self c.substitute_in.new.self c.substitute_in.ensures.grows (Grows-same c.substitute_in.new.self) (Grows-same c.substitute_in.new.self) c.args.list.now c.requires.nodes c.args.f.0 c.in-Some.at c.in-Some.lo.0 c.in-Some.hi.0 0 0 0 c.requires.f c.in-Some.ensures.inner c.count-count.ensures.diagram c.substitute_in.ensures.room
+
+pub returns-in_err-high-clause-room : goal.returns-in_err-high-clause-room
+returns-in_err-high-clause-room t c = substitute-high c.args.self.now c.substitute_in.new.self c.substitute_in-2.new.self c.substitute_in-2.new.self c.substitute_in-2.new.self c.substitute_in.ensures.grows c.substitute_in-2.ensures.grows (Grows-same c.substitute_in-2.new.self) c.args.list.now c.requires.nodes c.args.f.0 c.in-Some.at c.in-Some.lo.0 c.in-Some.hi.0 0 0 0 c.requires.f c.in-Some.ensures.inner c.count-count.ensures.diagram c.substitute_in.ensures.room c.substitute_in-2.ensures.room (omega arith)
+
+pub returns-in_err-choice-clause-room : goal.returns-in_err-choice-clause-room
+returns-in_err-choice-clause-room t c = substitute-high c.args.self.now c.substitute_in.new.self c.substitute_in-2.new.self c.image.new.self c.image.new.self c.substitute_in.ensures.grows c.substitute_in-2.ensures.grows c.image.ensures.grows c.args.list.now c.requires.nodes c.args.f.0 c.in-Some.at c.in-Some.lo.0 c.in-Some.hi.0 0 0 0 c.requires.f c.in-Some.ensures.inner c.count-count.ensures.diagram c.substitute_in.ensures.room c.substitute_in-2.ensures.room c.image.ensures.one
+
+pub returns-in_err-r-clause-room : goal.returns-in_err-r-clause-room
+returns-in_err-r-clause-room t c = substitute-room c.args.self.now c.substitute_in.new.self c.substitute_in-2.new.self c.image.new.self c.ite.new.self c.substitute_in.ensures.grows c.substitute_in-2.ensures.grows c.image.ensures.grows c.args.list.now c.requires.nodes c.args.f.0 c.in-Some.at c.in-Some.lo.0 c.in-Some.hi.0 c.in_ok-low.low.0 c.in_ok-high.high.0 c.in_ok-choice.choice.0 c.requires.f c.in-Some.ensures.inner c.in_ok-low.ensures.is_node c.in_ok-high.ensures.is_node c.in_ok-low.ensures.function c.in_ok-high.ensures.function c.in_ok-choice.ensures.function c.count-count.ensures.diagram c.substitute_in.ensures.room c.substitute_in-2.ensures.room c.image.ensures.one c.ite.ensures.room
+
+pub returns-clause-room : goal.returns-clause-room
+returns-clause-room t c = substitute-room c.args.self.now c.substitute_in.new.self c.substitute_in-2.new.self c.image.new.self c.ite.new.self c.substitute_in.ensures.grows c.substitute_in-2.ensures.grows c.image.ensures.grows c.args.list.now c.requires.nodes c.args.f.0 c.in-Some.at c.in-Some.lo.0 c.in-Some.hi.0 c.in_ok-low.low.0 c.in_ok-high.high.0 c.in_ok-choice.choice.0 c.requires.f c.in-Some.ensures.inner c.in_ok-low.ensures.is_node c.in_ok-high.ensures.is_node c.in_ok-low.ensures.function c.in_ok-high.ensures.function c.in_ok-choice.ensures.function c.count-count.ensures.diagram c.substitute_in.ensures.room c.substitute_in-2.ensures.room c.image.ensures.one c.ite.ensures.room
+
+pub returns-clause-grows : goal.returns-clause-grows
+returns-clause-grows t c = (Grows-then c.args.self.now c.image.new.self c.ite.new.self (Grows-then c.args.self.now c.substitute_in-2.new.self c.image.new.self (Grows-then c.args.self.now c.substitute_in.new.self c.substitute_in-2.new.self c.substitute_in.ensures.grows c.substitute_in-2.ensures.grows) c.image.ensures.grows) c.ite.ensures.grows)
+
+pub returns-clause-function : goal.returns-clause-function
+returns-clause-function t c = substitute-step c.args.self.now c.substitute_in.new.self c.substitute_in-2.new.self c.image.new.self c.ite.new.self c.substitute_in.ensures.grows c.substitute_in-2.ensures.grows c.image.ensures.grows c.args.list.now c.requires.nodes c.args.f.0 c.in-Some.at c.in-Some.lo.0 c.in-Some.hi.0 c.in_ok-low.low.0 c.in_ok-high.high.0 c.in_ok-choice.choice.0 c.requires.f c.in-Some.ensures.inner c.in_ok-low.ensures.is_node c.in_ok-high.ensures.is_node c.in_ok-low.ensures.function c.in_ok-high.ensures.function c.in_ok-choice.ensures.function c.in_ok-r.r.0 c.in_ok-r.ensures.function
+
+pub substitute_in-requires-2 : goal.substitute_in-requires-2
+substitute_in-requires-2 t c =
+    let e = grown-level c.args.self.now c.substitute_in.new.self c.substitute_in.ensures.grows c.in-Some.hi.0 c.in-Some.ensures.inner.hi_node in
+    let b = c.in-Some.ensures.inner.hi_below in
+    let h = c.in-Some.ensures.inner.at in
+    let m = c.in-Some.ensures.inner.small in
+    (omega arith, ((grown-node c.args.self.now c.substitute_in.new.self c.substitute_in.ensures.grows c.in-Some.hi.0 c.in-Some.ensures.inner.hi_node), (grown-nodes c.args.self.now c.substitute_in.new.self c.substitute_in.ensures.grows c.args.list.now c.requires.nodes, c.substitute_in.ensures.done)))
+
+pub image-requires : goal.image-requires
+image-requires t c = grown-nodes c.args.self.now c.substitute_in-2.new.self (Grows-then c.args.self.now c.substitute_in.new.self c.substitute_in-2.new.self c.substitute_in.ensures.grows c.substitute_in-2.ensures.grows) c.args.list.now c.requires.nodes
+
+pub returns-in_err-choice-clause-done : goal.returns-in_err-choice-clause-done
+returns-in_err-choice-clause-done t c = substitute-grows c.substitute_in-2.new.done c.substitute_in-2.new.self c.image.new.self c.args.list.now c.image.ensures.grows (grown-nodes c.args.self.now c.substitute_in-2.new.self (Grows-then c.args.self.now c.substitute_in.new.self c.substitute_in-2.new.self c.substitute_in.ensures.grows c.substitute_in-2.ensures.grows) c.args.list.now c.requires.nodes) c.substitute_in-2.ensures.done
+
+pub returns-in_err-r-clause-done : goal.returns-in_err-r-clause-done
+returns-in_err-r-clause-done t c = substitute-grows c.substitute_in-2.new.done c.image.new.self c.ite.new.self c.args.list.now c.ite.ensures.grows (grown-nodes c.args.self.now c.image.new.self (Grows-then c.args.self.now c.substitute_in-2.new.self c.image.new.self (Grows-then c.args.self.now c.substitute_in.new.self c.substitute_in-2.new.self c.substitute_in.ensures.grows c.substitute_in-2.ensures.grows) c.image.ensures.grows) c.args.list.now c.requires.nodes) (substitute-grows c.substitute_in-2.new.done c.substitute_in-2.new.self c.image.new.self c.args.list.now c.image.ensures.grows (grown-nodes c.args.self.now c.substitute_in-2.new.self (Grows-then c.args.self.now c.substitute_in.new.self c.substitute_in-2.new.self c.substitute_in.ensures.grows c.substitute_in-2.ensures.grows) c.args.list.now c.requires.nodes) c.substitute_in-2.ensures.done)
+
+pub returns-clause-done : goal.returns-clause-done
+returns-clause-done t c =
+    substitute-more c.substitute_in-2.new.done c.remember.new.done c.ite.new.self.triples c.args.list.now c.args.f c.in_ok-r.r (substitute-grows c.substitute_in-2.new.done c.image.new.self c.ite.new.self c.args.list.now c.ite.ensures.grows (grown-nodes c.args.self.now c.image.new.self (Grows-then c.args.self.now c.substitute_in-2.new.self c.image.new.self (Grows-then c.args.self.now c.substitute_in.new.self c.substitute_in-2.new.self c.substitute_in.ensures.grows c.substitute_in-2.ensures.grows) c.image.ensures.grows) c.args.list.now c.requires.nodes) (substitute-grows c.substitute_in-2.new.done c.substitute_in-2.new.self c.image.new.self c.args.list.now c.image.ensures.grows (grown-nodes c.args.self.now c.substitute_in-2.new.self (Grows-then c.args.self.now c.substitute_in.new.self c.substitute_in-2.new.self c.substitute_in.ensures.grows c.substitute_in-2.ensures.grows) c.args.list.now c.requires.nodes) c.substitute_in-2.ensures.done))
+    (substitute-kept c.args.self.now c.ite.new.self (Grows-then c.args.self.now c.image.new.self c.ite.new.self (Grows-then c.args.self.now c.substitute_in-2.new.self c.image.new.self (Grows-then c.args.self.now c.substitute_in.new.self c.substitute_in-2.new.self c.substitute_in.ensures.grows c.substitute_in-2.ensures.grows) c.image.ensures.grows) c.ite.ensures.grows) c.args.list.now c.requires.nodes c.args.f.0 c.in_ok-r.r.0 c.requires.f c.in_ok-r.ensures.is_node (substitute-step c.args.self.now c.substitute_in.new.self c.substitute_in-2.new.self c.image.new.self c.ite.new.self c.substitute_in.ensures.grows c.substitute_in-2.ensures.grows c.image.ensures.grows c.args.list.now c.requires.nodes c.args.f.0 c.in-Some.at c.in-Some.lo.0 c.in-Some.hi.0 c.in_ok-low.low.0 c.in_ok-high.high.0 c.in_ok-choice.choice.0 c.requires.f c.in-Some.ensures.inner c.in_ok-low.ensures.is_node c.in_ok-high.ensures.is_node c.in_ok-low.ensures.function c.in_ok-high.ensures.function c.in_ok-choice.ensures.function c.in_ok-r.r.0 c.in_ok-r.ensures.function))
+    c.remember.ensures

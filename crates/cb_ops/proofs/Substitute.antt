@@ -1,0 +1,244 @@
+-- The laws behind `substitute`.
+use Rattle.std.proofs.Common.{◌≡◌, ℕ, zero, suc, ◌+◌, ◌-◌, ◌*◌, ◌<◌, ◌≤◌, ◌^◌, min, Bool, true, false, ◌||◌, List, [], ◌∷◌, length, nat_eq, Option, None, Some, if◌then◌else◌, refl, sym, ap, subst, ◌∙◌, ◌⊎◌, inl, inr, arith}
+use Rattle.std.proofs.lemmas.Bool.{cases_Bool, eqb-true, eq-eqb, true≢false}
+use Rattle.std.proofs.lemmas.Option.{same_Some}
+use Rattle.std.proofs.lemmas.Nat.{pow_pos, pow-add}
+use Rattle.std.proofs.Math.Pow.{pow_mono}
+use Rattle.std.proofs.Math.Nat.{mul-le-mul_left}
+use Rattle.std.specs.List.{list_any}
+use Rattle.std.specs.Option.{option_map_or}
+use Rattle.std.specs.Prelude.{Result, Ok, Err}
+use Rattle.indexmap.specs.IndexMap.{IndexMap, get}
+use Rattle.cb_model.specs.Bits.{Bits, put}
+use Rattle.cb_dd.specs.declared.Triple.{Triple}
+use Rattle.cb_dd.specs.declared.Node.{Node}
+use Rattle.cb_dd.specs.declared.Stop.{Stop}
+use Rattle.cb_dd.specs.declared.Stop.TheVariants.{Nodes}
+use Rattle.cb_dd.specs.Diagram.{Store, IsNode, IsDiagram, HasParts, function_of, level_of, fulls_after}
+use Rattle.cb_dd.proofs.Diagrams.{function_of-zero, function_of-one}
+use Rattle.cb_ops.specs.Ops.{Agree, DependsOn, StandsFor, IsIte, IsCofactor, Room, Grows}
+use Rattle.cb_ops.specs.Done.{node_eq}
+use Rattle.cb_ops.specs.Support.{IsListed}
+use Rattle.cb_ops.specs.Substitute.{Images, image_of, substituted, AreNodes, Spreads, SubstituteRoom, SubstituteCause, IsSubstituted, AllSubstituted}
+use Rattle.cb_ops.proofs.Ite.{choose-all, without, without-lt, cofactor-depends, listed, literal-is, grown-node, grown-function, grown-depends, Grows-then}
+use Rattle.cb_ops.proofs.Gather.{agree-at}
+
+or-true : (b : Bool) → b || true ≡ true
+or-true true = refl
+or-true false = refl
+
+agree-build : (ks : List ℕ) (p q : Bits) → ((l : ℕ) → IsListed ks l → p l ≡ q l) → Agree ks p q
+agree-build [] p q h = tt
+agree-build (k ∷ ks) p q h = (h k (ap (λ b. b || list_any (nat_eq k) ks) (eq-eqb k k refl)), agree-build ks p q (λ l there. h l (ap (λ b. nat_eq l k || b) there ∙ or-true (nat_eq l k))))
+
+without-listed : (k : ℕ) (ls : List ℕ) (l : ℕ) → IsListed (without k ls) l → IsListed ls l
+unfolding without
+without-listed k [] l there = there
+without-listed k (x ∷ xs) l there = elim (cases_Bool (nat_eq x k)) [
+  | inl same ↦
+      let h : IsListed (without k xs) l = subst (λ c. IsListed (if c then without k xs else x ∷ without k xs) l) same there in
+      ap (λ b. nat_eq l x || b) (without-listed k xs l h) ∙ or-true (nat_eq l x)
+  | inr other ↦
+      let h : nat_eq l x || list_any (nat_eq l) (without k xs) ≡ true = subst (λ c. IsListed (if c then without k xs else x ∷ without k xs) l) other there in
+      elim (cases_Bool (nat_eq l x)) [
+        | inl here ↦ ap (λ b. b || list_any (nat_eq l) xs) here
+        | inr away ↦
+            let rest : list_any (nat_eq l) (without k xs) ≡ true = sym (ap (λ b. b || list_any (nat_eq l) (without k xs)) away) ∙ h in
+            ap (λ b. nat_eq l x || b) (without-listed k xs l rest) ∙ or-true (nat_eq l x)
+      ]
+]
+
+twice : (k : ℕ) (ls : List ℕ) → IsListed ls k → 2 ^ length (without k ls) + 2 ^ length (without k ls) ≤ 2 ^ length ls
+twice k ls there =
+    let m : 2 ^ (length (without k ls) + 1) ≤ 2 ^ length ls = pow_mono (without-lt k ls there) in
+    let e : 2 ^ (length (without k ls) + 1) ≡ 2 ^ length (without k ls) * 2 ^ 1 = pow-add 2 (length (without k ls)) 1 in
+    omega arith
+
+pub grown-nodes : (s t : Store) → Grows s t → (list : Images) → AreNodes s.triples list → AreNodes t.triples list
+grown-nodes s t g [] h = tt
+grown-nodes s t g (p ∷ ps) h = (grown-node s t g p.1.0 h.0, grown-nodes s t g ps h.1)
+
+pub image-node : (ts : List Triple) (list : Images) (l : ℕ) (m : Node) → AreNodes ts list → image_of list l ≡ Some m → IsNode ts m.0
+image-node ts [] l m h e = absurd (let d : None ≡ Some m = e in cc)
+image-node ts (p ∷ ps) l m h e = elim (cases_Bool (nat_eq l p.0)) [
+  | inl same ↦
+      let d : Some p.1 ≡ Some m = sym (ap (λ b. if b then Some p.1 else image_of ps l) same) ∙ e in
+      subst (λ n. IsNode ts n.0) (same_Some p.1 m d) h.0
+  | inr other ↦ image-node ts ps l m h.1 (sym (ap (λ b. if b then Some p.1 else image_of ps l) other) ∙ e)
+]
+
+cases-image : (o : Option Node) → ((m : Node) × (o ≡ Some m)) ⊎ (o ≡ None)
+cases-image (Some m) = inl (m, refl)
+cases-image None = inr refl
+
+at-some : (ts : List Triple) (list : Images) (a : Bits) (l : ℕ) (m : Node) → image_of list l ≡ Some m → substituted ts list a l ≡ function_of ts m.0 a
+at-some ts list a l m e = ap (λ o. option_map_or (λ n. function_of ts n.0 a) o (a l)) e
+
+at-none : (ts : List Triple) (list : Images) (a : Bits) (l : ℕ) → image_of list l ≡ None → substituted ts list a l ≡ a l
+at-none ts list a l e = ap (λ o. option_map_or (λ n. function_of ts n.0 a) o (a l)) e
+
+-- nothing changes when nodes are added
+pub substituted-grown : (s t : Store) → Grows s t → (list : Images) → AreNodes s.triples list → (a : Bits) → substituted t.triples list a ≡ substituted s.triples list a
+substituted-grown s t g list w a = λ i l. at l i
+  where
+    at : (l : ℕ) → substituted t.triples list a l ≡ substituted s.triples list a l
+    at l = elim (cases-image (image_of list l)) [
+      | inl h ↦ at-some t.triples list a l h.0 h.1 ∙ grown-function s t g h.0.0 (image-node s.triples list l h.0 w h.1) a ∙ sym (at-some s.triples list a l h.0 h.1)
+      | inr e ↦ at-none t.triples list a l e ∙ sym (at-none s.triples list a l e)
+    ]
+
+-- the image of a level: its node, or the bit itself
+pub image-found : (ts : List Triple) (list : Images) (l : ℕ) (m : Node) → image_of list l ≡ Some m → StandsFor ts m.0 (λ a. substituted ts list a l)
+image-found ts list l m e = record { at = λ a. sym (at-some ts list a l m e) }
+
+pub image-bit : (s t : Store) (list : Images) (l r : ℕ) → image_of list l ≡ None → ((a : Bits) → function_of t.triples r a ≡ (if a l then function_of s.triples 1 a else function_of s.triples 0 a)) → StandsFor t.triples r (λ a. substituted s.triples list a l)
+image-bit s t list l r e made = record { at = λ a. made a ∙ literal-is s.triples (a l) a ∙ sym (at-none s.triples list a l e) }
+
+-- a node with its levels replaced depends on the second levels alone
+replaced-depends : (s t : Store) (list : Images) (n r : ℕ) (first second : List ℕ) → Spreads s.triples n list first second → StandsFor t.triples r (λ a. function_of s.triples n (substituted s.triples list a)) → DependsOn t.triples r second
+replaced-depends s t list n r first second sp is = record {
+  agrees = λ a b h.
+      is.at a
+      ∙ sp.depends.agrees (substituted s.triples list a) (substituted s.triples list b) (agree-build first _ _ (λ l there. elim (cases-image (image_of list l)) [
+        | inl m ↦ at-some s.triples list a l m.0 m.1 ∙ (sp.images l m.0 m.1).agrees a b h ∙ sym (at-some s.triples list b l m.0 m.1)
+        | inr e ↦ at-none s.triples list a l e ∙ agree-at second a b h l (sp.covers l there e) ∙ sym (at-none s.triples list b l e)
+      ]))
+      ∙ sym (is.at b);
+}
+
+spreads-grown : (s t : Store) → Grows s t → (list : Images) (n : ℕ) (first second : List ℕ) → IsNode s.triples n → AreNodes s.triples list → Spreads s.triples n list first second → Spreads t.triples n list first second
+spreads-grown s t g list n first second w ws sp = record {
+  depends = grown-depends s t g n first w sp.depends;
+  covers = sp.covers;
+  images = λ l m e. grown-depends s t g m.0 second (image-node s.triples list l m ws e) (sp.images l m e);
+}
+
+spreads-side : (ts : List Triple) (list : Images) (f at : ℕ) (bit : Bool) (r : ℕ) (first second : List ℕ) → IsCofactor ts f at bit r → Spreads ts f list first second → Spreads ts r list (without at first) second
+spreads-side ts list f at bit r first second c sp = record {
+  depends = cofactor-depends ts f at bit r first c sp.depends;
+  covers = λ l there e. sp.covers l (without-listed at first l there) e;
+  images = sp.images;
+}
+
+pub substitute-none : (n : ℕ) (list : Images) (s : Store) → SubstituteRoom n list s s
+substitute-none n list s = record {
+  most = λ first second sp.
+      let p : 1 ≤ 2 ^ length first = pow_pos (length first) in
+      let m : 2 ^ length second * 1 ≤ 2 ^ length second * 2 ^ length first = mul-le-mul_left (2 ^ length second) p in
+      omega arith;
+}
+
+module _ (s t u x v : Store) (st : Grows s t) (tu : Grows t u) (ux : Grows u x) (list : Images) (ws : AreNodes s.triples list) (f at lo hi low high image : ℕ) (wf : IsNode s.triples f) (parts : HasParts s.triples f at lo hi) where
+  su : Grows s u
+  su = Grows-then s t u st tu
+
+  side : (n : ℕ) → IsNode s.triples n → (a : Bits) → function_of t.triples n (substituted t.triples list a) ≡ function_of s.triples n (substituted s.triples list a)
+  side n w a = grown-function s t st n w (substituted t.triples list a) ∙ ap (function_of s.triples n) (substituted-grown s t st list ws a)
+
+  module _ (wl : IsNode t.triples low) (wh : IsNode u.triples high) (is_low : StandsFor t.triples low (λ a. function_of s.triples lo (substituted s.triples list a))) (is_high : StandsFor u.triples high (λ a. function_of t.triples hi (substituted t.triples list a)))
+      (is_image : StandsFor x.triples image (λ a. substituted u.triples list a at)) where
+    pub substitute-step : (r : ℕ) → IsIte x.triples v.triples image high low r → StandsFor v.triples r (λ a. function_of s.triples f (substituted s.triples list a))
+    substitute-step r is = record {
+      at = λ a.
+          is.at a
+          ∙ choose-all _ _ _ _ _ _
+          (is_image.at a ∙ ap (λ (b : Bits). b at) (substituted-grown s u su list ws a))
+          (grown-function u x ux high wh a ∙ is_high.at a ∙ side hi parts.hi_node a)
+          (grown-function t x (Grows-then t u x tu ux) low wl a ∙ is_low.at a)
+          ∙ sym (parts.function (substituted s.triples list a));
+    }
+
+    image-depends : (first second : List ℕ) → IsListed first at → Spreads s.triples f list first second → DependsOn x.triples image second
+    image-depends first second there sp = record {
+      agrees = λ a b h.
+          is_image.at a ∙ ap (λ (c : Bits). c at) (substituted-grown s u su list ws a)
+          ∙ elim (cases-image (image_of list at)) [
+            | inl m ↦ at-some s.triples list a at m.0 m.1 ∙ (sp.images at m.0 m.1).agrees a b h ∙ sym (at-some s.triples list b at m.0 m.1)
+            | inr e ↦ at-none s.triples list a at e ∙ agree-at second a b h at (sp.covers at there e) ∙ sym (at-none s.triples list b at e)
+          ]
+          ∙ sym (is_image.at b ∙ ap (λ (c : Bits). c at) (substituted-grown s u su list ws b));
+    }
+
+    module _ (is : IsDiagram s.triples) (first_room : SubstituteRoom lo list s t) (second_room : SubstituteRoom hi list t u) where
+      pub substitute-room : length x.triples ≤ length u.triples + 1 → Room (image ∷ high ∷ low ∷ []) 1 x v → SubstituteRoom f list s v
+      substitute-room one last = record {
+        most = λ first second sp.
+            let there : IsListed first at = ap (λ k. list_any (nat_eq k) first) (sym parts.at) ∙ listed s.triples is f first wf (let p = parts.at in let m = parts.small in omega arith) sp.depends in
+            let low_side : IsCofactor s.triples f at false lo = record { node = parts.lo_node; above = parts.lo_below; function = parts.lo_function } in
+            let high_side : IsCofactor s.triples f at true hi = record { node = parts.hi_node; above = parts.hi_below; function = parts.hi_function } in
+            let sl = spreads-side s.triples list f at false lo first second low_side sp in
+            let sh = spreads-grown s t st list hi (without at first) second parts.hi_node ws (spreads-side s.triples list f at true hi first second high_side sp) in
+            let m = first_room.most (without at first) second sl in
+            let n = second_room.most (without at first) second sh in
+            let o = last.most second (
+              image-depends first second there sp,
+              (
+                grown-depends u x ux high second wh (replaced-depends t u list hi high (without at first) second sh is_high),
+                (grown-depends t x (Grows-then t u x tu ux) low second wl (replaced-depends s t list lo low (without at first) second sl is_low), tt),
+              ),
+            ) in
+            let d : 2 ^ length second * (2 ^ length (without at first) + 2 ^ length (without at first)) ≤ 2 ^ length second * 2 ^ length first = mul-le-mul_left (2 ^ length second) (twice at first there) in
+            omega arith;
+      }
+
+  module _ (is : IsDiagram s.triples) (first_room : SubstituteRoom lo list s t) where
+    sides : (first second : List ℕ) → Spreads s.triples f list first second → IsListed first at × Spreads s.triples lo list (without at first) second × Spreads t.triples hi list (without at first) second
+    sides first second sp = (
+      ap (λ k. list_any (nat_eq k) first) (sym parts.at) ∙ listed s.triples is f first wf (let p = parts.at in let m = parts.small in omega arith) sp.depends,
+      spreads-side s.triples list f at false lo first second (record { node = parts.lo_node; above = parts.lo_below; function = parts.lo_function }) sp,
+      spreads-grown s t st list hi (without at first) second parts.hi_node ws (spreads-side s.triples list f at true hi first second (record { node = parts.hi_node; above = parts.hi_below; function = parts.hi_function }) sp),
+    )
+
+    pub substitute-low : SubstituteRoom f list s t
+    substitute-low = record {
+      most = λ first second sp.
+          let h = sides first second sp in
+          let m = first_room.most (without at first) second h.1 in
+          let d : 2 ^ length second * (2 ^ length (without at first) + 2 ^ length (without at first)) ≤ 2 ^ length second * 2 ^ length first = mul-le-mul_left (2 ^ length second) (twice at first h.0) in
+          omega arith;
+    }
+
+    -- one more node, for the bit itself
+    pub substitute-high : SubstituteRoom hi list t u → length x.triples ≤ length u.triples + 1 → SubstituteRoom f list s x
+    substitute-high second_room one = record {
+      most = λ first second sp.
+          let h = sides first second sp in
+          let m = first_room.most (without at first) second h.1 in
+          let n = second_room.most (without at first) second h.2 in
+          let p : 0 < 2 ^ length second = pow_pos (length second) in
+          let d : 2 ^ length second * (2 ^ length (without at first) + 2 ^ length (without at first)) ≤ 2 ^ length second * 2 ^ length first = mul-le-mul_left (2 ^ length second) (twice at first h.0) in
+          omega arith;
+    }
+
+-- an answer in the store that it was made in
+pub substitute-kept : (s v : Store) → Grows s v → (list : Images) → AreNodes s.triples list → (f r : ℕ) → IsNode s.triples f → IsNode v.triples r → StandsFor v.triples r (λ a. function_of s.triples f (substituted s.triples list a)) → IsSubstituted v.triples list f r
+substitute-kept s v g list ws f r wf wr is = record {
+  node = grown-node s v g f wf;
+  answer = wr;
+  is = record { at = λ a. is.at a ∙ sym (grown-function s v g f wf (substituted v.triples list a) ∙ ap (function_of s.triples f) (substituted-grown s v g list ws a)) };
+}
+
+pub substitute-grows : {S : Type 0} (done : IndexMap Node Node S) (s t : Store) (list : Images) → Grows s t → AreNodes s.triples list → AllSubstituted done s.triples list → AllSubstituted done t.triples list
+substitute-grows done s t list g ws old = record {
+  right = λ n r at.
+      let w = old.right n r at in
+      record {
+        node = grown-node s t g n.0 w.node;
+        answer = grown-node s t g r.0 w.answer;
+        is = record { at = λ a. grown-function s t g r.0 w.answer a ∙ w.is.at a ∙ sym (grown-function s t g n.0 w.node (substituted t.triples list a) ∙ ap (function_of s.triples n.0) (substituted-grown s t g list ws a)) };
+      };
+}
+
+pub substitute-more : {S : Type 0} (old new : IndexMap Node Node S) (ts : List Triple) (list : Images) (n r : Node) → AllSubstituted old ts list → IsSubstituted ts list n.0 r.0
+    → ((q v : Node) → get node_eq new q ≡ Some v → ((q ≡ n) × (v ≡ r)) ⊎ (get node_eq old q ≡ Some v)) → AllSubstituted new ts list
+substitute-more old new ts list n r all here says = record {
+  right = λ q v at. elim (says q v at) [
+    | inl same ↦ subst (λ x. IsSubstituted ts list x.0 v.0) (sym same.0) (subst (λ y. IsSubstituted ts list n.0 y.0) (sym same.1) here)
+    | inr there ↦ all.right q v there
+  ];
+}
+
+-- a constant has no levels to replace
+pub substitute-constant : (ts : List Triple) (list : Images) (n : ℕ) → (n ≡ 0) ⊎ (n ≡ 1) → StandsFor ts n (λ a. function_of ts n (substituted ts list a))
+substitute-constant ts list n (inl e) = record { at = λ a. ap (λ m. function_of ts m a) e ∙ function_of-zero ts a ∙ sym (ap (λ m. function_of ts m (substituted ts list a)) e ∙ function_of-zero ts (substituted ts list a)) }
+substitute-constant ts list n (inr e) = record { at = λ a. ap (λ m. function_of ts m a) e ∙ function_of-one ts a ∙ sym (ap (λ m. function_of ts m (substituted ts list a)) e ∙ function_of-one ts (substituted ts list a)) }
