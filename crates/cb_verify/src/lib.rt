@@ -128,3 +128,6 @@ fn least_difference(
         wanted: y,
     })
 }
+
+#[cfg(test)]
+mod tests;
