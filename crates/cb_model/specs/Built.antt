@@ -1,5 +1,5 @@
 -- What is built so far of what the program prints: `verify` on files in the first form.
-use Rattle.std.specs.Prelude.{◌≡◌, ℕ, ◌+◌, ◌<◌, ◌≤◌, List, [], ◌++◌, map, sum, length, Option, Some, None, codes}
+use Rattle.std.specs.Prelude.{◌≡◌, ℕ, ◌+◌, ◌<◌, ◌≤◌, List, [], map, sum, length, Option, Some, None, codes}
 use Rattle.cb_model.specs.declared.Outcome.{Outcome}
 use Rattle.cb_model.specs.Text.{Text, name_text, lines_text, IsPrefix}
 use Rattle.cb_model.specs.Circuits.{Module, flat, circuit_of, BySpec}

@@ -1,10 +1,10 @@
 -- What the top call promises.
-use Rattle.std.specs.Prelude.{◌≡◌, ◌⊎◌, List, [], ◌++◌, Option, Some, None}
+use Rattle.std.specs.Prelude.{◌≡◌, ◌⊎◌, List, [], Option, Some, None}
 use Rattle.cb_model.specs.declared.Outcome.{Outcome}
 use Rattle.cb_model.specs.declared.Outcome.TheVariants as outcome
 use Rattle.cb_model.specs.declared.Side.TheVariants as side
 use Rattle.cb_model.specs.Text.{Text}
-use Rattle.cb_model.specs.Commands.{Command, Check, Run, Verify, Same, Make, Nodes, IsNumber, command_of}
+use Rattle.cb_model.specs.Commands.{Command, Check, Run, Verify, Same, Make, IsNumber, command_of}
 use Rattle.cb_model.specs.Outside.{Wrote}
 use Rattle.cb_model.specs.Built.{Output, OutputBegins, file_bytes}
 

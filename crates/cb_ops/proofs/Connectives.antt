@@ -1,11 +1,10 @@
 -- The connectives as choices.
-use Rattle.std.proofs.Common.{◌≡◌, ℕ, ◌+◌, ◌*◌, ◌<◌, ◌≤◌, ◌^◌, Bool, true, false, not, ◌&&◌, ◌||◌, List, [], ◌∷◌, length, if◌then◌else◌, refl, sym, ap, ◌∙◌, arith}
-use Rattle.std.proofs.lemmas.Nat.{pow_pos}
-use Rattle.cb_model.specs.Bits.{Bits, xor}
+use Rattle.std.proofs.Common.{◌≡◌, ℕ, Bool, true, false, not, ◌&&◌, ◌||◌, List, [], ◌∷◌, if◌then◌else◌, refl, sym, ap, ◌∙◌, arith}
+use Rattle.cb_model.specs.Bits.{xor}
 use Rattle.cb_dd.specs.declared.Triple.{Triple}
 use Rattle.cb_dd.specs.Diagram.{Store, IsNode, function_of}
 use Rattle.cb_dd.proofs.Diagrams.{function_of-zero, function_of-one}
-use Rattle.cb_ops.specs.Ops.{Agree, DependsOn, DependAll, StandsFor, IsIte, Room, HasCause, Grows}
+use Rattle.cb_ops.specs.Ops.{DependsOn, DependAll, StandsFor, IsIte, Room, HasCause, Grows}
 use Rattle.cb_ops.proofs.Ite.{choose, grown-depends, grown-function}
 
 pub depends-zero : (ts : List Triple) (ls : List ℕ) → DependsOn ts 0 ls

@@ -1,18 +1,16 @@
 -- The laws behind `support`.
-use Rattle.std.proofs.Common.{◌≡◌, ℕ, ◌<◌, ◌^◌, Bool, true, false, cond, ◌||◌, List, [], ◌∷◌, nat_eq, if◌then◌else◌, refl, sym, ap, subst, ◌∙◌, ◌⊎◌, inl, inr, arith}
-use Rattle.std.proofs.lemmas.Bool.{cases_Bool, cases_eq, eqb-true, eq-eqb, ne_eqb, true≢false}
+use Rattle.std.proofs.Common.{◌≡◌, ℕ, Bool, true, false, cond, ◌||◌, List, [], ◌∷◌, nat_eq, refl, sym, ap, subst, ◌∙◌, ◌⊎◌, inl, inr}
+use Rattle.std.proofs.lemmas.Bool.{cases_Bool, cases_eq, eqb-true, eq-eqb, true≢false}
 use Rattle.std.specs.List.{list_any, Contains}
 use Rattle.std.proofs.lemmas.List.Folds.{list_any_at}
 use Rattle.cb_model.specs.Bits.{Bits, put}
 use Rattle.cb_dd.specs.declared.Triple.{Triple}
-use Rattle.cb_dd.specs.declared.Node.{Node}
-use Rattle.cb_dd.specs.Diagram.{IsNode, IsDiagram, HasParts, function_of, level_of}
+use Rattle.cb_dd.specs.Diagram.{IsNode, IsDiagram, HasParts, function_of}
 use Rattle.cb_dd.proofs.Diagrams.{function_of-zero, function_of-one}
 use Rattle.cb_ops.specs.Ops.{Agree, DependsOn, IsFree}
-use Rattle.cb_ops.specs.Done.{node_eq}
-use Rattle.cb_ops.specs.Support.{IsListed, IsWithin, AllWithin, IsGathered}
+use Rattle.cb_ops.specs.Support.{IsListed, IsWithin, IsGathered}
 use Rattle.cb_ops.proofs.Ite.{essential, choose-all}
-use Rattle.cb_ops.proofs.Restrict.{put-swap, node_eq-same}
+use Rattle.cb_ops.proofs.Restrict.{put-swap}
 
 pub within-constant : (ts : List Triple) (n : ℕ) (levels : List ℕ) → (n ≡ 0) ⊎ (n ≡ 1) → IsWithin ts n levels
 within-constant ts n levels (inl e) = record { agrees = λ a b h. ap (λ m. function_of ts m a) e ∙ function_of-zero ts a ∙ sym (ap (λ m. function_of ts m b) e ∙ function_of-zero ts b) }

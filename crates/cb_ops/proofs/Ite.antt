@@ -1,19 +1,18 @@
 -- The laws behind `ite`.
-use Rattle.std.proofs.Common.{◌≡◌, ◌≢◌, ℕ, zero, suc, ◌+◌, ◌*◌, ◌-◌, ◌<◌, ◌≤◌, ◌^◌, min, Bool, true, false, cond, ◌||◌, List, [], ◌∷◌, ◌++◌, length, nat_eq, if◌then◌else◌, refl, sym, ap, subst, ◌∙◌, ◌⊎◌, inl, inr, arith, length-append, append-nil, append_assoc}
+use Rattle.std.proofs.Common.{◌≡◌, ℕ, ◌+◌, ◌*◌, ◌-◌, ◌<◌, ◌≤◌, ◌^◌, min, Bool, true, false, ◌||◌, List, [], ◌∷◌, ◌++◌, length, nat_eq, if◌then◌else◌, refl, sym, ap, subst, ◌∙◌, ◌⊎◌, inl, inr, arith, length-append, append-nil, append_assoc}
 use Rattle.std.proofs.lemmas.Bool.{cases_Bool, cases_eq, cases_lt, eq-eqb, ne_eqb, eqb-true, eqb-false, true≢false}
 use Rattle.std.proofs.Math.Pow.{pow_mono}
 use Rattle.std.proofs.lemmas.Nat.{pow_pos, pow-add}
 use Rattle.std.specs.List.{list_any}
-use Rattle.std.specs.Prelude.{Result, Ok, Err}
+use Rattle.std.specs.Prelude.{Result, Err}
 use Rattle.cb_model.specs.Bits.{Bits, put}
-use Rattle.cb_model.specs.Outside.{Rose}
 use Rattle.cb_dd.specs.declared.Triple.{Triple}
 use Rattle.cb_dd.specs.declared.Node.{Node}
 use Rattle.cb_dd.specs.declared.Stop.{Stop}
 use Rattle.cb_dd.specs.declared.Stop.TheVariants.{Nodes}
 use Rattle.cb_dd.specs.Diagram.{fulls_after, IsFull, Store, IsNode, IsDiagram, IsChild, function_of, level_of}
-use Rattle.cb_dd.proofs.Diagrams.{function_of-append, function_of-zero, function_of-one, function_of-put, function_of-lo, function_of-hi, level_of-append, level_of-node, level_of-zero, level_of-one, node-within, canonical, kind_of, Kind, bottom, top, inner}
-use Rattle.cb_ops.specs.Ops.{Agree, DependsOn, DependAll, StandsFor, IsIte, Room, HasCause, IsCofactor, Grows}
+use Rattle.cb_dd.proofs.Diagrams.{function_of-append, function_of-zero, function_of-one, function_of-put, function_of-lo, function_of-hi, level_of-append, level_of-node, level_of-zero, level_of-one, node-within, canonical, kind_of, bottom, top, inner}
+use Rattle.cb_ops.specs.Ops.{Agree, DependsOn, IsIte, Room, HasCause, IsCofactor, Grows}
 
 abbrev pub IteRoom : Store → Store → ℕ → ℕ → ℕ → Type 0
 IteRoom s t f g h = Room (f ∷ g ∷ h ∷ []) 1 s t

@@ -1,5 +1,5 @@
 -- How the least assignment that makes a node true is built up, level by level.
-use Rattle.std.proofs.Common.{◌≡◌, ◌≢◌, ℕ, zero, suc, ◌+◌, ◌*◌, ◌<◌, ◌≤◌, ◌^◌, Bool, true, false, ◌||◌, List, [], ◌∷◌, ◌++◌, map, length, take, drop, get_or, nat_eq, if◌then◌else◌, refl, sym, ap, subst, ◌∙◌, ◌⊎◌, inl, inr, arith, append_assoc, append-nil}
+use Rattle.std.proofs.Common.{◌≡◌, ◌≢◌, ℕ, zero, suc, ◌+◌, ◌<◌, ◌≤◌, ◌^◌, Bool, true, false, ◌||◌, List, [], ◌∷◌, ◌++◌, map, length, take, drop, get_or, nat_eq, if◌then◌else◌, refl, sym, ap, subst, ◌∙◌, inl, inr, arith, append_assoc, append-nil}
 use Rattle.std.proofs.lemmas.Bool.{cases_Bool, cases_lt, eqb-true, true≢false}
 use Rattle.std.proofs.Math.Nat.{pow-suc}
 use Rattle.std.proofs.lemmas.List.{length-map, take_more_set, take_all, drop_more}
@@ -10,7 +10,7 @@ use Rattle.std.specs.List.Sorted.{IsStrictlyIncreasing}
 use Rattle.cb_model.specs.Bits.{Bits, put, weight}
 use Rattle.cb_dd.specs.declared.Triple.{Triple}
 use Rattle.cb_dd.specs.Diagram.{IsNode, IsDiagram, HasParts, function_of, level_of}
-use Rattle.cb_dd.proofs.Diagrams.{function_of-zero, function_of-one, level_of-node, kind_of, Kind, bottom, top, inner}
+use Rattle.cb_dd.proofs.Diagrams.{function_of-zero, function_of-one, level_of-node, kind_of, bottom, top, inner}
 use Rattle.cb_ops.specs.Ops.{Agree, DependsOn, IsCofactor, IsLeastTrue, IsLeastSide}
 use Rattle.cb_ops.proofs.Ite.{put-id, put-same, put-other, listed, cofactor-at, cofactor-self}
 

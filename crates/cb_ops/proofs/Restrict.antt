@@ -1,5 +1,5 @@
 -- The laws behind `restrict` and `exists`.
-use Rattle.std.proofs.Common.{◌≡◌, ◌≢◌, ℕ, ◌+◌, ◌*◌, ◌<◌, ◌≤◌, ◌^◌, Bool, true, false, cond, ◌||◌, List, [], ◌∷◌, ◌++◌, length, nat_eq, Option, None, Some, if◌then◌else◌, refl, sym, ap, subst, ◌∙◌, ◌⊎◌, inl, inr, arith, length-append}
+use Rattle.std.proofs.Common.{◌≡◌, ℕ, ◌+◌, ◌<◌, ◌≤◌, ◌^◌, Bool, true, false, cond, ◌||◌, List, [], ◌∷◌, length, Some, if◌then◌else◌, refl, sym, ap, subst, ◌∙◌, ◌⊎◌, inl, inr, arith}
 use Rattle.std.proofs.lemmas.Bool.{cases_Bool, cases_eq, cases_lt, eqb-true}
 use Rattle.std.proofs.lemmas.Option.{same_Some}
 use Rattle.std.specs.Map.{lookup}
@@ -8,11 +8,11 @@ use Rattle.cb_model.specs.Bits.{Bits, put}
 use Rattle.cb_dd.specs.declared.Triple.{Triple}
 use Rattle.cb_dd.specs.declared.Node.{Node}
 use Rattle.cb_dd.specs.Diagram.{Store, IsNode, IsDiagram, IsChild, HasParts, function_of, level_of}
-use Rattle.cb_dd.proofs.Diagrams.{function_of-append, function_of-put, level_of-zero}
+use Rattle.cb_dd.proofs.Diagrams.{function_of-put, level_of-zero}
 use Rattle.std.proofs.lemmas.Nat.{pow_pos}
 use Rattle.cb_ops.specs.Ops.{Agree, DependsOn, StandsFor, IsCofactor, Room, Grows}
 use Rattle.cb_ops.specs.Done.{node_eq, IsRestricted, AllRestricted}
-use Rattle.cb_ops.proofs.Ite.{choose, put-same, put-other, put-id, essential, cofactor-self, grown-node, grown-function, grown-level, grown-depends, room-low, room-high}
+use Rattle.cb_ops.proofs.Ite.{choose, put-same, put-other, essential, cofactor-self, grown-node, grown-function, grown-depends, room-low, room-high}
 use Rattle.cb_ops.proofs.Connectives.{depends-zero, room-of}
 
 -- bits put at two places, in either order

@@ -1,25 +1,22 @@
 -- The laws behind `substitute`.
-use Rattle.std.proofs.Common.{◌≡◌, ℕ, zero, suc, ◌+◌, ◌-◌, ◌*◌, ◌<◌, ◌≤◌, ◌^◌, min, Bool, true, false, ◌||◌, List, [], ◌∷◌, length, nat_eq, Option, None, Some, if◌then◌else◌, refl, sym, ap, subst, ◌∙◌, ◌⊎◌, inl, inr, arith}
-use Rattle.std.proofs.lemmas.Bool.{cases_Bool, eqb-true, eq-eqb, true≢false}
+use Rattle.std.proofs.Common.{◌≡◌, ℕ, ◌+◌, ◌*◌, ◌<◌, ◌≤◌, ◌^◌, Bool, true, false, ◌||◌, List, [], ◌∷◌, length, nat_eq, Option, None, Some, if◌then◌else◌, refl, sym, ap, subst, ◌∙◌, ◌⊎◌, inl, inr, arith}
+use Rattle.std.proofs.lemmas.Bool.{cases_Bool, eq-eqb}
 use Rattle.std.proofs.lemmas.Option.{same_Some}
 use Rattle.std.proofs.lemmas.Nat.{pow_pos, pow-add}
 use Rattle.std.proofs.Math.Pow.{pow_mono}
 use Rattle.std.proofs.Math.Nat.{mul-le-mul_left}
 use Rattle.std.specs.List.{list_any}
 use Rattle.std.specs.Option.{option_map_or}
-use Rattle.std.specs.Prelude.{Result, Ok, Err}
 use Rattle.indexmap.specs.IndexMap.{IndexMap, get}
-use Rattle.cb_model.specs.Bits.{Bits, put}
+use Rattle.cb_model.specs.Bits.{Bits}
 use Rattle.cb_dd.specs.declared.Triple.{Triple}
 use Rattle.cb_dd.specs.declared.Node.{Node}
-use Rattle.cb_dd.specs.declared.Stop.{Stop}
-use Rattle.cb_dd.specs.declared.Stop.TheVariants.{Nodes}
-use Rattle.cb_dd.specs.Diagram.{Store, IsNode, IsDiagram, HasParts, function_of, level_of, fulls_after}
+use Rattle.cb_dd.specs.Diagram.{Store, IsNode, IsDiagram, HasParts, function_of}
 use Rattle.cb_dd.proofs.Diagrams.{function_of-zero, function_of-one}
 use Rattle.cb_ops.specs.Ops.{Agree, DependsOn, StandsFor, IsIte, IsCofactor, Room, Grows}
 use Rattle.cb_ops.specs.Done.{node_eq}
 use Rattle.cb_ops.specs.Support.{IsListed}
-use Rattle.cb_ops.specs.Substitute.{Images, image_of, substituted, AreNodes, Spreads, SubstituteRoom, SubstituteCause, IsSubstituted, AllSubstituted}
+use Rattle.cb_ops.specs.Substitute.{Images, image_of, substituted, AreNodes, Spreads, SubstituteRoom, IsSubstituted, AllSubstituted}
 use Rattle.cb_ops.proofs.Ite.{choose-all, without, without-lt, cofactor-depends, listed, literal-is, grown-node, grown-function, grown-depends, Grows-then}
 use Rattle.cb_ops.proofs.Gather.{agree-at}
 

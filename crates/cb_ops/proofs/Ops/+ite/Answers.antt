@@ -1,11 +1,8 @@
-use Rattle.std.proofs.Common.{rules, ◌≡◌, ◌<◌, ◌^◌, arith, refl, ap, sym, subst, ◌∙◌}
-use Rattle.std.specs.Prelude.{Ok, Err}
+use Rattle.std.proofs.Common.{rules, ◌<◌, ◌^◌, arith, refl, sym, subst, ◌∙◌}
 use Rattle.std.proofs.lemmas.Result.{err_from_is_err_and}
-use Rattle.cb_dd.specs.declared.Node.{Node}
-use Rattle.cb_dd.specs.declared.Stop.{Stop}
-use Rattle.cb_dd.specs.Diagram.{Store, level_of, fulls_after}
+use Rattle.cb_dd.specs.Diagram.{Store, level_of}
 use Rattle.cb_ops.specs.Ops.{IsIte, Grows}
-use Rattle.cb_ops.proofs.Ite.{grown-node, grown-level, cause, refused-full, ite-kept, ite-step, ite-child, room-none, room-low, room-high, room-same, least-three, grown-child, grown-cofactor, Grows-same, Grows-then}
+use Rattle.cb_ops.proofs.Ite.{grown-node, grown-level, cause, refused-full, ite-kept, ite-step, ite-child, room-low, room-high, room-same, least-three, grown-child, grown-cofactor, Grows-same, Grows-then}
 use Rattle.cb_ops.proofs.Ops.+ite.Goals as goal
 
 pub returns-in_err-lo-clause-room : goal.returns-in_err-lo-clause-room

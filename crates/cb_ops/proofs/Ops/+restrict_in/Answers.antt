@@ -1,9 +1,6 @@
-use Rattle.std.proofs.Common.{rules, ◌≡◌, ◌<◌, ◌≤◌, ◌^◌, arith, refl, sym, ap, ◌∙◌}
-use Rattle.std.proofs.lemmas.Grind.{common_steps}
+use Rattle.std.proofs.Common.{◌≡◌, ◌^◌, arith}
 use Rattle.cb_dd.specs.Diagram.{level_of}
-use Rattle.cb_ops.specs.Ops.{StandsFor}
-use Rattle.cb_ops.specs.Done.{IsRestricted}
-use Rattle.cb_ops.proofs.Ite.{grown-node, grown-level, grown-function, grown-child, Grows-same, Grows-then}
+use Rattle.cb_ops.proofs.Ite.{grown-node, grown-level, grown-child, Grows-same, Grows-then}
 use Rattle.cb_ops.proofs.Restrict.{restricted-self, restricted-child, restricted-step, restricted-low, restricted-high, restricted-grows, restricted-more, restricted-kept}
 use Rattle.cb_ops.proofs.Ops.+restrict_in.Goals as goal
 

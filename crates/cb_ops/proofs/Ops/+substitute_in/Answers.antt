@@ -1,4 +1,4 @@
-use Rattle.std.proofs.Common.{◌≡◌, ◌<◌, ◌≤◌, ◌^◌, arith, sym, ap, ◌∙◌}
+use Rattle.std.proofs.Common.{arith}
 use Rattle.cb_ops.proofs.Ite.{grown-node, grown-level, Grows-same, Grows-then}
 use Rattle.cb_ops.proofs.Substitute.{grown-nodes, substitute-constant, substitute-none, substitute-low, substitute-high, substitute-room, substitute-step, substitute-kept, substitute-grows, substitute-more}
 use Rattle.cb_ops.proofs.Ops.+substitute_in.Goals as goal

@@ -1,4 +1,4 @@
-use Rattle.std.proofs.Common.{◌≡◌, sym, subst}
+use Rattle.std.proofs.Common.{sym, subst}
 use Rattle.cb_dd.specs.Diagram.{IsDiagram}
 use Rattle.cb_ops.specs.Call.{IsMemo}
 use Rattle.cb_ops.proofs.Memo.{IsMemo-append}

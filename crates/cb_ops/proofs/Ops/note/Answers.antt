@@ -1,4 +1,4 @@
-use Rattle.std.proofs.Common.{◌≡◌, ℕ, ◌+◌, ◌<◌, ◌≤◌, arith, ap, sym, subst, ◌∙◌, length}
+use Rattle.std.proofs.Common.{◌≡◌, ℕ, ◌+◌, ◌≤◌, arith, ap, sym, subst, ◌∙◌, length}
 use Rattle.cb_dd.specs.Diagram.{Store}
 use Rattle.cb_ops.specs.declared.Call.{Call}
 use Rattle.cb_ops.specs.Call.{IsAnswer}

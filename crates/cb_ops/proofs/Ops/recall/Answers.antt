@@ -1,4 +1,4 @@
-use Rattle.std.proofs.Common.{◌≡◌, ◌+◌, ◌<◌, arith, ap, sym, subst, length}
+use Rattle.std.proofs.Common.{arith, ap, sym, subst, length}
 use Rattle.cb_dd.specs.Diagram.{Store}
 use Rattle.cb_ops.specs.Ops.{IsIte}
 use Rattle.cb_ops.proofs.Ops.recall.Goals as goal
