@@ -1,5 +1,5 @@
 -- Texts: their tokens, byte by byte, their readings and their faults.
-use Rattle.std.proofs.Common.{◌≡◌, ℕ, zero, suc, ◌<◌, true, false, nat_lt, List, [], ◌∷◌, ◌++◌, length, take, get_or, refl, sym, ◌∙◌, ap, subst, codes, arith, rules, inl, inr, pos, lit<, lit≤}
+use Rattle.std.proofs.Common.{◌≡◌, ℕ, zero, suc, ◌<◌, true, false, nat_lt, List, [], ◌∷◌, ◌++◌, length, take, get_or, refl, sym, ◌∙◌, ap, subst, codes, arith, rules, inl, inr, pos, lit<}
 use Rattle.std.specs.Prelude.{Some, None, All, FitsSigned, drop}
 use Rattle.std.specs.Int.{w64}
 use Rattle.std.specs.List.{list_all}
@@ -10,7 +10,7 @@ use Rattle.cb_model.specs.Grammar.{Form, Forms, Integer, Variable, Name, Not, An
 use Rattle.cb_laws.proofs.Tables.{zero_fits}
 use Rattle.cb_laws.proofs.Decided.{and_true}
 use Rattle.cb_laws.proofs.OneReading.{one_way, one_clause, call_view, CallView, head_kind, goes_on}
-use Rattle.cb_rows.specs.TextExamples.{token_at, two_lines, two_lines_tokens, two_clauses, operators, operators_query, no_clause, deep, TextExamples}
+use Rattle.cb_rows.specs.TextExamples.{token_at, two_lines, two_lines_tokens, two_clauses, operators, operators_query, two_names, no_clause, deep, TextExamples}
 use Rattle.cb_rows.proofs.LexRow.{longest, no_token}
 
 -- ---- two lines
@@ -120,10 +120,10 @@ abbrev p_token : Token
 p_token = token_at kind.Atom (codes "p") 0 1 1
 
 abbrev q_token : Token
-q_token = token_at kind.Atom (codes "q") 2 3 1
+q_token = token_at kind.Atom (codes "q") 2 3 2
 
 abbrev dot : Token
-dot = token_at kind.Dot (codes ".") 3 4 1
+dot = token_at kind.Dot (codes ".") 3 4 2
 
 -- a call that begins with an atom, and behind it an atom, ends with that atom ahead
 after_atom : (t u : Token) (ts us : List Token) (f : Forms) → u.kind ≡ kind.Atom → CallView (t ∷ u ∷ ts) us f → head_kind us ≡ kind.Atom
@@ -165,15 +165,15 @@ no_deep ts k h f = let l : get_or (nestings (0 ∷ []) ts) k 0 < 257 = less_at (
     less_at (x ∷ xs) zero h = less x (and_true _ _ h).0
     less_at (x ∷ xs) (suc k) h = less_at xs k (and_true _ _ h).1
 
-wrong_lexed : Lexes 0 1 (codes "p q.") no_clause None
+wrong_lexed : Lexes 0 1 two_names no_clause None
 wrong_lexed =
     token 1 kind.Atom _ (longest _ 1 _ (omega arith) refl refl) tt refl
     (layout refl
     (token 1 kind.Atom _ (longest _ 1 _ (omega arith) refl refl) tt refl
     (token 1 kind.Dot _ (longest _ 1 _ (omega arith) refl refl) tt refl ended)))
 
-wrong_reading : IsReading ReadsClause (codes "p q.") (Syntax 1)
-wrong_reading = syntax_at no_clause 1 wrong_lexed wrong_second (λ j f. absurd (no_deep no_clause j refl f)) (lit≤ tt, lit≤ tt)
+wrong_reading : IsReading ReadsClause two_names (Syntax 2)
+wrong_reading = syntax_at no_clause 1 wrong_lexed wrong_second (λ j f. absurd (no_deep no_clause j refl f)) refl
 
 -- ---- a clause that the text ends in
 
@@ -274,6 +274,4 @@ rows_hold = record {
   syntax = wrong_reading;
   unfinished = open_reading;
   too_deep = deep_first;
-  first_end = refl;
-  text_end = refl;
 }

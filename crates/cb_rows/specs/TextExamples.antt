@@ -4,7 +4,7 @@ use Rattle.cb_model.specs.declared.Kind.{Kind}
 use Rattle.cb_model.specs.declared.Kind.TheVariants as kind
 use Rattle.cb_model.specs.Text.{Text}
 use Rattle.cb_model.specs.Tokens.{Token, spelled, Lexes, Byte, Number, Quote}
-use Rattle.cb_model.specs.Grammar.{Integer, Variable, Name, And, Xor, Or, Not, Last, More, one, FormClause, FormQuery, AnEqual, Rule, ReadsClause, ReadsQuery, ReadsAll, FirstWrong, FirstDeep, nestings, last_line, IsReading, Whole, Lexed, Unfinished, Syntax}
+use Rattle.cb_model.specs.Grammar.{Integer, Variable, Name, And, Xor, Or, Not, Last, More, one, FormClause, FormQuery, AnEqual, Rule, ReadsClause, ReadsQuery, ReadsAll, FirstWrong, FirstDeep, nestings, IsReading, Whole, Lexed, Unfinished, Syntax}
 
 -- a token with its text, its place and its line
 abbrev pub token_at : Kind → Text → ℕ → ℕ → ℕ → Token
@@ -35,9 +35,13 @@ operators_query = record {
   goals = AnEqual (Variable (codes "X")) (Or (More (Not (Variable (codes "A"))) (one (Xor (More (Variable (codes "B")) (one (And (More (Variable (codes "C")) (one (Variable (codes "D"))))))))))) ∷ [];
 }
 
--- `p q.`
+-- `p` and, on the next line, `q.`
+abbrev pub two_names : Text
+two_names = codes "p" ++ (10 ∷ codes "q.")
+
+-- its tokens
 abbrev pub no_clause : List Token
-no_clause = token_at kind.Atom (codes "p") 0 1 1 ∷ token_at kind.Atom (codes "q") 2 3 1 ∷ token_at kind.Dot (codes ".") 3 4 1 ∷ []
+no_clause = token_at kind.Atom (codes "p") 0 1 1 ∷ token_at kind.Atom (codes "q") 2 3 2 ∷ token_at kind.Dot (codes ".") 3 4 2 ∷ []
 
 -- so many times the same token
 abbrev pub times : ℕ → Token → List Token
@@ -66,13 +70,10 @@ pub record TextExamples : Type 0 where
   pub lone_minus : IsReading ReadsClause (codes "p(-).") (Lexed (Byte 2))
   pub large_number : IsReading ReadsClause (codes "p(99999999999999999999") (Lexed (Number 2))
   pub open_quote : IsReading ReadsClause (codes "p('a") (Lexed (Quote 2))
-  -- `p q.`: no clause goes on with the second token
+  -- no clause goes on with the second of two names, and its line is that of the fault, not that of its clause
   pub first_wrong : FirstWrong ReadsClause no_clause 1
-  pub syntax : IsReading ReadsClause (codes "p q.") (Syntax 1)
+  pub syntax : IsReading ReadsClause two_names (Syntax 2)
   -- `p(0`, on the second line
   pub unfinished : IsReading ReadsClause (codes "q." ++ (10 ∷ codes "p(0")) (Unfinished 2)
   -- 256 are open, and one more token opens the next
   pub too_deep : FirstDeep deep 257
-  -- the lines of a syntax fault end at the dot of its clause, and behind the last dot with the text
-  pub first_end : last_line two_lines two_lines_tokens 2 ≡ 1
-  pub text_end : last_line (codes "p q" ++ (10 ∷ 10 ∷ [])) (token_at kind.Atom (codes "p") 0 1 1 ∷ token_at kind.Atom (codes "q") 2 3 1 ∷ []) 1 ≡ 3

@@ -9,3 +9,5 @@ pub mod Moves
 pub mod Folds
 pub mod GoalMoves
 pub mod ClauseMoves
+pub mod LineSteps
+pub mod Readings

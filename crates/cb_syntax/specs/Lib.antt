@@ -3,3 +3,5 @@ pub mod Machine
 pub mod Answers
 pub mod Steps
 pub mod Pieces
+pub mod Lines
+pub mod Readings
