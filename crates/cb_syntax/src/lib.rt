@@ -9,3 +9,6 @@ mod token_list;
 
 pub use texts::{ReadError, read_clauses, read_queries};
 pub use token_list::{TokensError, tokens};
+
+#[cfg(test)]
+mod tests;

@@ -1,8 +1,9 @@
 //! Clauses and queries from text.
 
-ghost use Rattle.std.specs.Prelude.{◌≤◌, length, map, MatchResult};
+ghost use Rattle.std.specs.Prelude.{◌≤◌, length, map, IfOk, MatchResult};
 ghost use Rattle.cb_model.specs.Forms.{clause_form, query_form};
 ghost use Rattle.cb_model.specs.Grammar.{ReadsClause, ReadsQuery, IsReading, Whole};
+ghost use Rattle.cb_model.specs.Written.{AreClauses, AreQueries};
 ghost use Rattle.cb_syntax.specs.Readings.{IsRefused, IsSame};
 
 use crate::lines::refusal;
@@ -37,7 +38,8 @@ pub enum ReadError {
 /// The clauses of a text of at most 4,194,304 bytes, in their order; their names are parts of the text.
 pub fn read_clauses<'s>(alloc: Global, source: &'s [u8]) -> Result<Vec<RawClause<'s>>, ReadError>
     requires { length source.now ≤ 4194304 }
-    ensures { MatchResult result (λ v. IsReading ReadsClause source.now (Whole (map clause_form v.items))) (IsRefused ReadsClause source.now) }
+    ensures reading { MatchResult result (λ v. IsReading ReadsClause source.now (Whole (map clause_form v.items))) (IsRefused ReadsClause source.now) }
+    ensures written { IfOk result (λ v. AreClauses (length source.now) (map clause_form v.items)) }
 {
     let found = match tokens(alloc, source) {
         Ok(found) => found,
@@ -52,7 +54,8 @@ pub fn read_clauses<'s>(alloc: Global, source: &'s [u8]) -> Result<Vec<RawClause
 /// The queries of a text of at most 4,194,304 bytes, in their order; their names are parts of the text.
 pub fn read_queries<'s>(alloc: Global, source: &'s [u8]) -> Result<Vec<RawQuery<'s>>, ReadError>
     requires { length source.now ≤ 4194304 }
-    ensures { MatchResult result (λ v. IsReading ReadsQuery source.now (Whole (map query_form v.items))) (IsRefused ReadsQuery source.now) }
+    ensures reading { MatchResult result (λ v. IsReading ReadsQuery source.now (Whole (map query_form v.items))) (IsRefused ReadsQuery source.now) }
+    ensures written { IfOk result (λ v. AreQueries (length source.now) (map query_form v.items)) }
 {
     let found = match tokens(alloc, source) {
         Ok(found) => found,
