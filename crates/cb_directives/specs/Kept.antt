@@ -1,0 +1,8 @@
+-- What is known of declarations.
+use Rattle.std.specs.Prelude.{◌≡◌, true, List, map}
+use Rattle.cb_model.specs.declared.Sort.{Sort}
+use Rattle.cb_model.specs.Directives.{Sign, has_sign}
+
+-- each demon has declared sorts
+abbrev pub AreDeclared : List Sign → List (Sign × List Sort) → Type 0
+AreDeclared demons sorts = (a : Sign) → has_sign demons a ≡ true → has_sign (map (λ e. e.0) sorts) a ≡ true

@@ -1,0 +1,14 @@
+//! The directives of a file: which constants there are, which arguments have which sorts, and which goals wait or are
+//! demons.
+#![tactic(auto)]
+
+mod declarations;
+mod fault;
+mod file;
+mod terms;
+mod words;
+
+pub use declarations::Declarations;
+pub use fault::LoadError;
+pub use file::{declare, heads};
+pub use terms::{atom, named};
