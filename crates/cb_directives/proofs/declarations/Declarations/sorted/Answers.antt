@@ -43,15 +43,19 @@ returns-then-not-demon c =
 
 pub invariant_of-self-in_default-add : goal.invariant_of-self-in_default-add
 invariant_of-self-in_default-add c =
-    let i = c.self.inside in
-    (c.self.invariant.0, subst (λ (l : List Sign). AreDeclared l c.insert.new.self) (sym c.in_default-add.ensures.refused)
-    (more_sorts (declared_of i.constants i.sorts i.demons i.delays) c.insert.new.self _ c.in_ok-sorts.sorts c.in-Ok.ensures.added c.self.invariant.1))
+    let i = c.self.inside in (
+      c.self.invariant.0,
+      subst (λ (l : List Sign). AreDeclared l c.insert.new.self) (sym c.in_default-add.ensures.refused)
+          (more_sorts (declared_of i.constants i.sorts i.demons i.delays) c.insert.new.self _ c.in_ok-sorts.sorts c.in-Ok.ensures.added c.self.invariant.1),
+    )
 
 pub invariant_of-self-2 : goal.invariant_of-self-2
 invariant_of-self-2 c =
-    let i = c.self.inside in
-    (c.self.invariant.0, more_demons (declared_of i.constants i.sorts i.demons i.delays) c.add.new.self c.insert.new.self (c.in-Some.name.now, length c.in-Some.args.now) c.in_ok-sorts.sorts c.in-Ok.ensures.added
-    c.self.invariant.1 c.in-Ok-add.ensures.added)
+    let i = c.self.inside in (
+      c.self.invariant.0,
+      more_demons (declared_of i.constants i.sorts i.demons i.delays) c.add.new.self c.insert.new.self (c.in-Some.name.now, length c.in-Some.args.now) c.in_ok-sorts.sorts c.in-Ok.ensures.added
+          c.self.invariant.1 c.in-Ok-add.ensures.added,
+    )
 
 pub returns : goal.returns
 returns c =
