@@ -33,6 +33,11 @@ abbrev pub is_plain : Text → Bool
 is_plain [] = false
 is_plain (x ∷ xs) = is_small x && list_all is_word xs
 
+-- a letter `A` to `Z` or `_`, and then letters, digits and `_`
+abbrev pub is_variable : Text → Bool
+is_variable [] = false
+is_variable (x ∷ xs) = is_capital x && list_all is_word xs
+
 -- plain where it can be, else in quotes
 abbrev pub name_text : Text → Text
 name_text x = if is_plain x then x else codes "'" ++ x ++ codes "'"

@@ -15,7 +15,7 @@ use Rattle.cb_model.specs.Answers.{Product, products_text}
 use Rattle.cb_model.specs.Line.{Names, bus_text, line_text, is_wide}
 use Rattle.cb_model.specs.Room.{branch_size, widest}
 use Rattle.cb_model.specs.Grammar.{Form, Last, More, one, Name, Variable, Integer, Closed, Open, Not, And, Or, FormGoal, ACall, AnEqual, FormClause, Directive, Rule}
-use Rattle.cb_model.specs.Written.{clause_written, query_written, parts_of}
+use Rattle.cb_model.specs.Written.{is_written, clause_written, query_written, parts_of}
 use Rattle.cb_model.specs.Directives.{SortClash, Unknown, Declared, directives, nothing, BadDirective, Twice, constant_argument}
 use Rattle.cb_model.specs.Sorts.{Numbering, as_tree, HasSort, Var, Equation, apart, own_name}
 use Rattle.cb_model.specs.Loading.{query_body, goal_unknown, is_taken}
@@ -142,6 +142,8 @@ pub record DetailExamples : Type 0 where
   pub no_body : clause_written (Rule 1 (atom (codes "p")) true []) ≡ false
   pub short_chain : clause_written (Rule 1 (Name (codes "p") (one (And (one (Variable (codes "X")))))) false []) ≡ false
   pub no_element : clause_written (Rule 1 (Name (codes "p") (one (Open Last (Variable (codes "X"))))) false []) ≡ false
+  pub own_variable : is_written (Variable (own_name 0)) ≡ false
+  pub small_variable : is_written (Variable (codes "x")) ≡ false
   pub no_goal : query_written (record { line = 1; goals = [] }) ≡ false
   pub parts : parts_of (Name (codes "p") (More (Not (Variable (codes "X"))) (one (Closed (one (Integer (pos 0))))))) ≡ 5
   -- directives
