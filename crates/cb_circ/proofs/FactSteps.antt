@@ -6,7 +6,7 @@ use Rattle.cb_model.specs.declared.Kind.TheVariants as kind
 use Rattle.cb_model.specs.Bits.{Each}
 use Rattle.cb_model.specs.Text.{Text}
 use Rattle.cb_model.specs.Circuits.{Module, Instance}
-use Rattle.cb_model.specs.FirstForm.{Word, Name, Mark, with_commas, list_words, nets_words, instance_words, fact_words, module_words, PortPair, PairSpec, pair_words, spec_words}
+use Rattle.cb_circ.specs.FirstForm.{Word, Name, Mark, with_commas, list_words, nets_words, instance_words, fact_words, module_words, PortPair, PairSpec, pair_words, spec_words}
 use Rattle.cb_model.specs.Grammar.{Op, Plus, Hash, Star, op_kind}
 use Rattle.cb_lex.specs.declared.Token.{Token}
 use Rattle.cb_circ.specs.declared.stop.Stop.{Stop}

@@ -17,7 +17,7 @@ use Rattle.cb_model.specs.Values.{in_scope_step, in_scope}
 use Rattle.cb_model.specs.Grammar.{Op, Plus, Hash, Star}
 use Rattle.cb_model.specs.Circuits.{Module}
 use Rattle.cb_model.specs.Sound.{IsSound}
-use Rattle.cb_model.specs.FirstForm.{Word, Mark, with_commas, behind_commas, instance_words, module_words, spec_words, PortPair, PairSpec, op_expr, pair_expr, IsFirst, IsPairGate, driven_nets}
+use Rattle.cb_circ.specs.FirstForm.{Word, Mark, with_commas, behind_commas, instance_words, module_words, spec_words, PortPair, PairSpec, op_expr, pair_expr, IsFirst, IsPairGate, driven_nets}
 use Rattle.cb_lex.specs.declared.Token.{Token}
 use Rattle.cb_circ.specs.declared.stop.Close.TheVariants as close
 use Rattle.cb_circ.specs.declared.items.PairGate.{PairGate}

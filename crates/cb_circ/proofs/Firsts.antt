@@ -5,7 +5,7 @@ use Rattle.cb_model.specs.Text.{Text}
 use Rattle.cb_model.specs.Bits.{Each}
 use Rattle.cb_model.specs.Circuits.{Instance, pins_of, Ordered}
 use Rattle.cb_model.specs.Sound.{IsSound}
-use Rattle.cb_model.specs.FirstForm.{IsPairGate, DrivenInOrder, driven_nets}
+use Rattle.cb_circ.specs.FirstForm.{IsPairGate, DrivenInOrder, driven_nets}
 use Rattle.cb_circ.specs.declared.items.PairGate.{PairGate}
 use Rattle.cb_circ.specs.Shapes.{instance_of}
 use Rattle.cb_circ.specs.Numbers.{number, IsPart, part_kind, numbered, AllFit}

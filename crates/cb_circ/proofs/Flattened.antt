@@ -5,7 +5,7 @@ use Rattle.cb_model.specs.declared.Gate.{Gate}
 use Rattle.cb_model.specs.Text.{Text}
 use Rattle.cb_model.specs.Bits.{Each}
 use Rattle.cb_model.specs.Circuits.{Module, Net, In, Own, Flat, Placed, gate_flat, placed_from, part_of, pin_of, drive_pin, drive, driver_within, own_gates, flat_from, flat, net_number, gates_from, circuit_of}
-use Rattle.cb_model.specs.FirstForm.{driven_nets}
+use Rattle.cb_circ.specs.FirstForm.{driven_nets}
 use Rattle.cb_circ.specs.declared.items.PairGate.{PairGate}
 use Rattle.cb_circ.specs.Shapes.{instance_of}
 use Rattle.cb_circ.specs.Numbers.{number, IsPart, part_kind, numbered, AllFit}

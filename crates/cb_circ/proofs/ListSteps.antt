@@ -3,7 +3,7 @@ use Rattle.std.proofs.Common.{◌≡◌, ◌≢◌, ℕ, ◌+◌, ◌≤◌, Lis
 use Rattle.cb_model.specs.declared.Kind.TheVariants as kind
 use Rattle.cb_model.specs.Bits.{Each}
 use Rattle.cb_model.specs.Text.{Text}
-use Rattle.cb_model.specs.FirstForm.{Word, Mark}
+use Rattle.cb_circ.specs.FirstForm.{Word, Mark}
 use Rattle.cb_lex.specs.declared.Token.{Token}
 use Rattle.cb_circ.specs.declared.stop.Close.{Close}
 use Rattle.cb_circ.specs.declared.stop.Close.TheVariants as close

@@ -2,7 +2,7 @@
 use Rattle.std.proofs.Common.{◌≡◌, ◌≢◌, ℕ, List, [], ◌∷◌, ◌++◌, length, refl, sym, ◌∙◌, ap, arith, append_assoc}
 use Rattle.cb_model.specs.declared.Kind.TheVariants as kind
 use Rattle.cb_model.specs.Bits.{Each}
-use Rattle.cb_model.specs.FirstForm.{Word, Mark, behind_commas}
+use Rattle.cb_circ.specs.FirstForm.{Word, Mark, behind_commas}
 use Rattle.cb_circ.specs.Written.{listed}
 
 -- each item with a comma behind it, and what follows

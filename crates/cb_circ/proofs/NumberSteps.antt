@@ -10,7 +10,7 @@ use Rattle.cb_model.specs.declared.Expr.TheVariants as expr
 use Rattle.cb_model.specs.Bits.{Each}
 use Rattle.cb_model.specs.Text.{Text, all_different}
 use Rattle.cb_model.specs.Circuits.{Instance}
-use Rattle.cb_model.specs.FirstForm.{driven_nets, PortPair, op_expr, pair_expr}
+use Rattle.cb_circ.specs.FirstForm.{driven_nets, PortPair, op_expr, pair_expr}
 use Rattle.cb_circ.specs.declared.items.PairGate.{PairGate}
 use Rattle.cb_circ.specs.declared.items.Pair.{Pair}
 use Rattle.cb_circ.specs.Shapes.{instance_of, pair_of, op_of}

@@ -5,7 +5,7 @@ use Rattle.std.proofs.lemmas.List.{drop-map, get_or-drop}
 use Rattle.cb_model.specs.declared.Kind.{Kind}
 use Rattle.cb_model.specs.declared.Kind.TheVariants as kind
 use Rattle.cb_model.specs.Text.{Text}
-use Rattle.cb_model.specs.FirstForm.{Word, word_of, word_with}
+use Rattle.cb_circ.specs.FirstForm.{Word, word_of, word_with}
 use Rattle.cb_lex.specs.declared.Token.{Token}
 use Rattle.cb_lex.specs.View.{token_of, tokens_of}
 use Rattle.cb_circ.specs.Written.{words, texts, words_at, kind_of, HasShape, LacksShape}

@@ -4,7 +4,7 @@ use Rattle.cb_model.specs.declared.Kind.TheVariants as kind
 use Rattle.cb_model.specs.Bits.{Each}
 use Rattle.cb_model.specs.Text.{Text}
 use Rattle.cb_model.specs.Circuits.{Module, Instance}
-use Rattle.cb_model.specs.FirstForm.{Word, Name, Mark, module_words, spec_words, PairSpec}
+use Rattle.cb_circ.specs.FirstForm.{Word, Name, Mark, module_words, spec_words, PairSpec}
 use Rattle.cb_lex.specs.declared.Token.{Token}
 use Rattle.cb_circ.specs.declared.facts.ModuleFact.{ModuleFact}
 use Rattle.cb_circ.specs.declared.facts.SpecFact.{SpecFact}

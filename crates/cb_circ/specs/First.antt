@@ -5,7 +5,7 @@ use Rattle.cb_model.specs.Bits.{all_of}
 use Rattle.cb_model.specs.Values.{in_scope}
 use Rattle.cb_model.specs.Sound.{IsSound}
 use Rattle.cb_model.specs.Circuits.{Module, flat, circuit_of}
-use Rattle.cb_model.specs.FirstForm.{PairSpec, FirstForm, IsFirst, pair_exprs, module_words, spec_words}
+use Rattle.cb_circ.specs.FirstForm.{PairSpec, FirstForm, IsFirst, pair_exprs, module_words, spec_words}
 use Rattle.cb_lex.specs.declared.Token.{Token}
 use Rattle.cb_circ.specs.declared.first.First.{First}
 use Rattle.cb_circ.specs.Written.{words}

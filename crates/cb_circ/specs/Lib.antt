@@ -1,3 +1,4 @@
+pub mod FirstForm
 pub mod Written
 pub mod Shapes
 pub mod Facts

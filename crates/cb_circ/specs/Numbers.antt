@@ -9,7 +9,7 @@ use Rattle.cb_model.specs.declared.Expr.{Expr}
 use Rattle.cb_model.specs.Text.{Text, all_different}
 use Rattle.cb_model.specs.Circuits.{Instance, Module, kind_named, gate_names, flat, circuit_of}
 use Rattle.cb_model.specs.Sound.{IsSound}
-use Rattle.cb_model.specs.FirstForm.{IsPairGate, driven_nets, PortPair, PairSpec, pair_expr}
+use Rattle.cb_circ.specs.FirstForm.{IsPairGate, driven_nets, PortPair, PairSpec, pair_expr}
 
 -- the number of a net
 abbrev pub number : List Text → Text → ℕ

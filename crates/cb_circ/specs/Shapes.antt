@@ -6,7 +6,7 @@ use Rattle.cb_model.specs.declared.Kind.TheVariants as kind
 use Rattle.cb_model.specs.Text.{Text}
 use Rattle.cb_model.specs.Circuits.{Instance}
 use Rattle.cb_model.specs.Grammar.{Op, Plus, Hash, Star, op_kind}
-use Rattle.cb_model.specs.FirstForm.{Word, Net, instance_words, PortPair, pair_words}
+use Rattle.cb_circ.specs.FirstForm.{Word, Net, instance_words, PortPair, pair_words}
 use Rattle.cb_circ.specs.declared.items.PairGate.{PairGate}
 use Rattle.cb_circ.specs.declared.items.Pair.{Pair}
 use Rattle.cb_circ.specs.declared.items.Operator.{Operator}

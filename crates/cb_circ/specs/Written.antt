@@ -4,7 +4,7 @@ use Rattle.cb_model.specs.declared.Kind.{Kind}
 use Rattle.cb_model.specs.declared.Kind.TheVariants as kind
 use Rattle.cb_model.specs.Bits.{Each}
 use Rattle.cb_model.specs.Text.{Text}
-use Rattle.cb_model.specs.FirstForm.{Word, Name, Net, Mark, word_of, word_with, with_commas}
+use Rattle.cb_circ.specs.FirstForm.{Word, Name, Net, Mark, word_of, word_with, with_commas}
 use Rattle.cb_lex.specs.declared.Token.{Token}
 use Rattle.cb_circ.specs.declared.stop.Stop.{Stop}
 use Rattle.cb_circ.specs.declared.stop.Stop.TheVariants as stop

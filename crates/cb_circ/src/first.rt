@@ -4,7 +4,7 @@ ghost use Rattle.std.specs.List.{list_all};
 ghost use Rattle.cb_model.specs.Bits.{all_of};
 ghost use Rattle.cb_model.specs.Values.{in_scope};
 ghost use Rattle.cb_model.specs.Sound.{IsSound, HasOneValuation};
-ghost use Rattle.cb_model.specs.FirstForm.{is_spare};
+ghost use Rattle.cb_circ.specs.FirstForm.{is_spare};
 ghost use Rattle.cb_circ.specs.Written.{Refuses};
 ghost use Rattle.cb_circ.specs.Facts.{module_of, spec_of};
 ghost use Rattle.cb_circ.specs.Numbers.{IsWellMade, IsCircuitOf, Matches};

@@ -1,6 +1,6 @@
 //! The items of the lists of the first form.
 ghost use Rattle.std.specs.Prelude.{◌≡◌, ◌+◌, ◌<◌, ◌≤◌, List, ℕ, [], ◌∷◌, ◌↔◌, IsTrue, length, drop, get_or, MatchOption, MatchBool, codes};
-ghost use Rattle.cb_model.specs.FirstForm.{Word, Net, instance_words, pair_words};
+ghost use Rattle.cb_circ.specs.FirstForm.{Word, Net, instance_words, pair_words};
 ghost use Rattle.cb_circ.specs.Shapes.{IsPair, pair_kinds};
 ghost use Rattle.cb_circ.specs.Written.{words, texts, HasShape, LacksShape, TookItem, NoItem};
 

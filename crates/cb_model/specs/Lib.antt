@@ -18,12 +18,10 @@ pub mod Sorts
 pub mod Loading
 pub mod Facts
 pub mod Adder
-pub mod FirstForm
 pub mod Outcomes
 pub mod Outside
 pub mod Commands
 pub mod Refusals
 pub mod Verdicts
-pub mod Built
 pub mod Output
 pub mod Top

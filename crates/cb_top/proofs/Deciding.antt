@@ -6,11 +6,11 @@ use Rattle.cb_model.specs.declared.Outcome.{Outcome}
 use Rattle.cb_model.specs.declared.Outcome.TheVariants as outcome
 use Rattle.cb_model.specs.Text.{Text, name_text, lines_text}
 use Rattle.cb_model.specs.Circuits.{Module, flat, circuit_of, BySpec, Agrees, LeastDifference}
-use Rattle.cb_model.specs.FirstForm.{PairSpec, FirstForm, pair_exprs}
+use Rattle.cb_circ.specs.FirstForm.{PairSpec, FirstForm, pair_exprs}
 use Rattle.cb_model.specs.Commands.{Nodes, Max, Only}
 use Rattle.cb_model.specs.Refusals.{refusal_line, unbuilt}
 use Rattle.cb_model.specs.Verdicts.{differs_text, agrees, differs, stopped}
-use Rattle.cb_model.specs.Built.{not_first, compared, flat_room}
+use Rattle.cb_top.specs.Built.{not_first, compared, flat_room}
 use Rattle.cb_model.specs.Room.{room_v, circuit_pins, instance_pins, expr_size}
 use Rattle.cb_model.specs.Output.{BelowNodes}
 use Rattle.std.proofs.Math.Nat.{mul-le-mul_right}

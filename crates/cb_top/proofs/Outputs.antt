@@ -15,10 +15,11 @@ use Rattle.cb_model.specs.Commands.{Command, Check, Run, Verify, Same, Make, Nod
 use Rattle.cb_model.specs.Refusals.{Refused, Refuses, refusal_line, usage, unbuilt, file_too_long}
 use Rattle.cb_model.specs.Verdicts.{Compared, agrees, differs, stopped}
 use Rattle.cb_model.specs.Outside.{Rose, bytes_named}
-use Rattle.cb_model.specs.Built.{VerifySays, too_long, not_first, compared, CommandSays, Output, nothing_yet, begins, bytes_or, file_bytes, flat_room}
-use Rattle.cb_model.specs.FirstForm.{pair_exprs}
+use Rattle.cb_top.specs.Built.{VerifySays, too_long, not_first, compared, CommandSays, Output, nothing_yet, begins, bytes_or, file_bytes, flat_room}
+use Rattle.cb_circ.specs.FirstForm.{pair_exprs}
 use Rattle.cb_model.specs.Output.{BelowNodes}
-use Rattle.cb_model.specs.Top.{Appends, Prints, HasUsage, NamesNumber}
+use Rattle.cb_model.specs.Top.{HasUsage, NamesNumber}
+use Rattle.cb_top.specs.Top.{Appends, Prints}
 use Rattle.cb_top.specs.declared.lines.TheConstants.{USAGE, FILE_TOO_LONG}
 use Rattle.cb_top.specs.Answers.{VerifyAnswers, Answers, BreaksOff, Finishes, whole, broken}
 

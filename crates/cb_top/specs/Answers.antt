@@ -9,7 +9,7 @@ use Rattle.cb_verify.specs.declared.Verdict.{Verdict}
 use Rattle.cb_verify.specs.declared.Verdict.TheVariants as verdict
 use Rattle.cb_model.specs.Commands.{Nodes}
 use Rattle.cb_model.specs.Outside.{Rose, Wrote, bytes_named}
-use Rattle.cb_model.specs.Built.{VerifySays, Output, file_bytes}
+use Rattle.cb_top.specs.Built.{VerifySays, Output, file_bytes}
 use Rattle.cb_top.specs.declared.Line.{Line}
 use Rattle.cb_top.specs.declared.Line.TheVariants.{Fixed, Made}
 

@@ -2,7 +2,7 @@ use Rattle.std.proofs.Common.{◌≡◌, Some, [], ◌∷◌, refl, sym, ap, sub
 use Rattle.cb_model.specs.declared.Outcome.{Outcome}
 use Rattle.cb_model.specs.Text.{Text}
 use Rattle.cb_model.specs.Refusals.{refusal_line, unbuilt}
-use Rattle.cb_model.specs.Built.{CommandSays}
+use Rattle.cb_top.specs.Built.{CommandSays}
 use Rattle.cb_top.specs.declared.words.Command.{Command}
 use Rattle.cb_top.specs.Words.{command_view}
 use Rattle.cb_top.proofs.Outputs.{usage-answers, unbuilt-answers, verify-answers, if-ok}

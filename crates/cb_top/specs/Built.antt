@@ -3,7 +3,7 @@ use Rattle.std.specs.Prelude.{◌≡◌, ℕ, ◌+◌, ◌<◌, ◌≤◌, List,
 use Rattle.cb_model.specs.declared.Outcome.{Outcome}
 use Rattle.cb_model.specs.Text.{Text, name_text, lines_text, IsPrefix}
 use Rattle.cb_model.specs.Circuits.{Module, flat, circuit_of, BySpec}
-use Rattle.cb_model.specs.FirstForm.{PairSpec, FirstForm, pair_exprs}
+use Rattle.cb_circ.specs.FirstForm.{PairSpec, FirstForm, pair_exprs}
 use Rattle.cb_model.specs.Commands.{Command, Check, Run, Verify, Same, Make, Nodes, command_of, file_name}
 use Rattle.cb_model.specs.Refusals.{Refuses, usage, file_too_long, unbuilt}
 use Rattle.cb_model.specs.Verdicts.{Compared}
