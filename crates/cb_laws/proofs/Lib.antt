@@ -1,4 +1,5 @@
 pub mod Values
+pub mod FormValues
 pub mod Form
 pub mod Tables
 pub mod Stays

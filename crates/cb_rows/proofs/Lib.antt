@@ -20,3 +20,5 @@ pub mod WideRow
 pub mod VerifyRow
 pub mod OutputRows
 pub mod DetailRows
+pub mod LimitRows
+pub mod FormRow

@@ -2,19 +2,20 @@
 use Rattle.std.proofs.Common.{◌≡◌, ◌<◌, Bool, true, false, not, List, [], ◌∷◌, refl, subst, inl, inr, codes, arith, lit<}
 use Rattle.cb_model.specs.declared.Expr.TheVariants as expr
 use Rattle.cb_model.specs.declared.Tree.TheVariants as tree
+use Rattle.cb_model.specs.declared.Clause.{Clause}
 use Rattle.cb_model.specs.Values.{Ground, Int}
 use Rattle.cb_model.specs.Equations.{Solvable, SolvedAt}
 use Rattle.cb_model.specs.Program.{no_program}
-use Rattle.cb_model.specs.Derivation.{Made, here, resolved, with_circuit, first_branch}
+use Rattle.cb_model.specs.Derivation.{Made, Try, Becomes, SoFar, here, on, resolved, with_circuit, first_branch}
 use Rattle.cb_model.specs.Answers.{IsShape, with_opens}
 use Rattle.cb_model.specs.Room.{BelowRoom, room_with, branch_size, expr_size}
-use Rattle.cb_model.specs.Output.{QuerySays, few, no_lines, room_of}
+use Rattle.cb_model.specs.Output.{QuerySays, few, few_adding, no_lines, room_of}
 use Rattle.cb_laws.proofs.Values.{expr_values, tree_values}
 use Rattle.cb_laws.proofs.Tables.{bits_equal, with_bits, zero_fits}
 use Rattle.cb_laws.proofs.Shapes.{shape_values, size_values}
 use Rattle.std.specs.Prelude.{pos, None, sum_by}
 use Rattle.cb_model.specs.Commands.{Only}
-use Rattle.cb_rows.specs.RoomRow.{X, p, q, names, dropped, times, name_program, name_behind, bare, bare_program, bare_query, circuits, A, B}
+use Rattle.cb_rows.specs.RoomRow.{X, p, q, names, dropped, times, name_program, name_query, name_behind, bare, bare_program, bare_query, circuits, A, B}
 
 other_bit : (x : Bool) → not x ≡ x → ⊥
 other_bit true e = absurd (cc)
@@ -71,8 +72,25 @@ times_bound = simp size_values refl
 pub name_bound : room_with name_program (resolved name_behind 0 [] (record { pred = 0; sorts = []; head = []; body = [] })) 0 ≡ 12800
 name_bound = simp size_values refl
 
-pub name_allows : BelowRoom name_program names (resolved name_behind 0 [] (record { pred = 0; sorts = []; head = []; body = [] })) 10000
-name_allows = inl (simp size_values (lit< tt))
+pub name_first_bound : room_with name_program (first_branch name_query) 0 ≡ 8192
+name_first_bound = simp size_values refl
+
+-- the clause `p.`
+abbrev fact : Clause
+fact = record { pred = 0; sorts = []; head = []; body = [] }
+
+name_tried : SoFar name_program name_query 10 (Made (first_branch name_query) ∷ []) 0 (Try name_behind 0 [] 0 ∷ [])
+name_tried = record {
+  begins = refl;
+  rest = [];
+  goes = on (Becomes (Try name_behind 0 [] 0)) (Try name_behind 0 [] 0 ∷ []) [] (inl (tt, refl)) refl refl refl here;
+  is = refl;
+}
+
+pub may_stop_adding : QuerySays name_program name_query names 10 (Only 12799) (codes "stopped: nodes" ∷ []) true
+may_stop_adding =
+    few_adding (Made (first_branch name_query) ∷ []) 0 (Try name_behind 0 [] 0) [] 1 [] (resolved name_behind 0 [] fact) [] name_tried (fact, refl, refl) refl no_lines
+    (inl (simp size_values (lit< tt))) refl
 
 pub bare_size : branch_size bare_program (with_circuit (record (first_branch bare_query) { goals = [] }) bare (tree.Bus (expr.One ∷ []) None) (tree.Bus [] None)) ≡ 5
 bare_size = simp size_values refl

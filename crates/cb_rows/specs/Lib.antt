@@ -18,3 +18,5 @@ pub mod WideRow
 pub mod QueryExamples
 pub mod OutputExamples
 pub mod DetailExamples
+pub mod LimitExamples
+pub mod FormExamples

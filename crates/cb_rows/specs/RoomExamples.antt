@@ -8,7 +8,7 @@ use Rattle.cb_model.specs.Program.{no_program}
 use Rattle.cb_model.specs.Derivation.{first_branch, resolved, with_circuit}
 use Rattle.cb_model.specs.Room.{BelowRoom, room_with, branch_size, expr_size}
 use Rattle.cb_model.specs.Output.{QuerySays, room_of}
-use Rattle.cb_rows.specs.RoomRow.{p, q, names, dropped, times, name_program, name_behind, bare, bare_program, bare_query, circuits, A, B}
+use Rattle.cb_rows.specs.RoomRow.{p, q, names, dropped, times, name_program, name_query, name_behind, bare, bare_program, bare_query, circuits, A, B}
 
 pub record RoomExamples : Type 0 where
   -- `~X = X`: the branch that is dropped has no printed leaves, and with more nodes than its bound it allows no stop
@@ -23,6 +23,10 @@ pub record RoomExamples : Type 0 where
   pub times_bound : room_with (no_program 1) (first_branch times) 1 ≡ 16777216
   -- `p, X = 1` over `p.`, where X is a term: the item `p = p` has two leaves
   pub name_bound : room_with name_program (resolved name_behind 0 [] (record { pred = 0; sorts = []; head = []; body = [] })) 0 ≡ 12800
+  -- its first branch, without a printed leaf, is below that; so with one node less than the bound the stop comes while
+  -- the second branch is added
+  pub name_first_bound : room_with name_program (first_branch name_query) 0 ≡ 8192
+  pub may_stop_adding : QuerySays name_program name_query names 10 (Only 12799) (codes "stopped: nodes" ∷ []) true
   -- `circuit(m, [1], [])` over `module(m, [A], [], []).`: the item counts its name, its trees and its own variable
   pub circuit_size : branch_size bare_program (with_circuit (record (first_branch bare_query) { goals = [] }) bare (tree.Bus (expr.One ∷ []) None) (tree.Bus [] None)) ≡ 5
   -- `verify half_adder`, with its specification `[A # B, A * B]`

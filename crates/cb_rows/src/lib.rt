@@ -4,6 +4,8 @@
 ghost use Rattle.cb_rows.specs.CircuitExamples.{CircuitExamples};
 ghost use Rattle.cb_rows.specs.DetailExamples.{DetailExamples};
 ghost use Rattle.cb_rows.specs.FileExamples.{FileExamples};
+ghost use Rattle.cb_rows.specs.FormExamples.{FormExamples};
+ghost use Rattle.cb_rows.specs.LimitExamples.{LimitExamples};
 ghost use Rattle.cb_rows.specs.OutputExamples.{OutputExamples};
 ghost use Rattle.cb_rows.specs.QueryExamples.{QueryExamples};
 ghost use Rattle.cb_rows.specs.RoomExamples.{RoomExamples};
@@ -22,6 +24,16 @@ pub fn detail_examples()
 /// Worked files: words, directives, sorts, facts and their refusals.
 pub fn file_examples()
     ensures { FileExamples }
+{}
+
+/// Written terms, clauses and queries with their forms.
+pub fn form_examples()
+    ensures { FormExamples }
+{}
+
+/// Worked limits: the gates of a module, and the lengths of a file and of the input.
+pub fn limit_examples()
+    ensures { LimitExamples }
 {}
 
 /// Whole runs of the program, from its words and the bytes that it reads to its text and its outcome.

@@ -11,6 +11,8 @@ returns c = record {
   only_no = only_no;
   times_bound = rows.times_bound;
   name_bound = rows.name_bound;
+  name_first_bound = rows.name_first_bound;
+  may_stop_adding = rows.may_stop_adding;
   circuit_size = rows.bare_size;
   verify_bound = rows.verify_bound;
 }

@@ -7,7 +7,8 @@ use Rattle.cb_model.specs.declared.RawTerm.TheVariants as raw
 use Rattle.std.proofs.lemmas.Int.{to_z-of_z}
 use Rattle.std.specs.Int.{w64}
 use Rattle.std.specs.Prelude.{FitsSigned}
-use Rattle.cb_syntax.proofs.Folds.{match_map, form_variable, form_integer, form_closed, not_of, name_with, name_none, list_none, list_tail, pushed}
+use Rattle.cb_laws.proofs.FormValues.{form_variable, form_integer, form_closed}
+use Rattle.cb_syntax.proofs.Folds.{match_map, not_of, name_with, name_none, list_none, list_tail, pushed}
 use Rattle.cb_syntax.proofs.Moves.{call_end, call_form, args_open, args_took, chain_stop, chain_stops, chain_took, operand_form, operand_variable, operand_integer, not_took, group_open, group_took, list_took, list_stops, list_form_is, list_end_form, call_took, call_stops, operands_more, operands_end, terms_more, terms_took, nil_took, elements_stop, elements_took, list_end_stops, closed_took, tail_open, tail_took}
 use Rattle.cb_syntax.proofs.read.+reader.Goals as goal
 

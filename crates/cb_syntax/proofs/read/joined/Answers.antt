@@ -1,7 +1,7 @@
 use Rattle.std.proofs.Common.{sym, ◌∙◌, ap, map}
 use Rattle.cb_model.specs.Forms.{form_of, forms_of}
 use Rattle.cb_syntax.specs.Steps.{joined_form, op_of}
-use Rattle.cb_syntax.proofs.Folds.{form_and, form_xor, form_or}
+use Rattle.cb_laws.proofs.FormValues.{form_and, form_xor, form_or}
 use Rattle.cb_syntax.proofs.read.joined.Goals as goal
 
 pub returns-in-Plus : goal.returns-in-Plus
