@@ -1,5 +1,5 @@
 -- What files, sources and sinks promise.
-use Rattle.std.specs.Prelude.{Bool, true, false, ◌≡◌, ℕ, ◌+◌, ◌<◌, ◌≤◌, ◌↔◌, [], length, take, drop, Option, Some, None}
+use Rattle.std.specs.Prelude.{Bool, true, false, ◌≡◌, ℕ, ◌+◌, ◌<◌, ◌≤◌, ◌↔◌, [], ◌++◌, length, take, drop, Option, Some, None}
 use Rattle.cb_model.specs.Text.{Text}
 use Rattle.cb_host.specs.declared.Load.{Load}
 use Rattle.cb_host.specs.declared.Load.TheVariants.{Done, Long, Failed as LoadFailed, Memory}
@@ -37,3 +37,14 @@ pub record Reads (bytes : Text) (left : Option Text) (buffer : Text) (n : ℕ) :
   pub front : take n buffer ≡ take n bytes
   pub rest : left ≡ Some (drop n bytes)
   pub none : (n ≡ 0) ↔ (bytes ≡ [])
+
+-- where a source told its bytes before, these were taken from their front, and it tells the others now
+pub record Took (before now : Option Text) (bytes : Text) : Type 0 where
+  pub told : (all : Text) → before ≡ Some all → (rest : Text) × ((now ≡ Some rest) × (all ≡ bytes ++ rest))
+
+-- what a reading of these bytes to their end, or to one byte past the limit, leaves in the buffer and in the source
+abbrev pub ReadsAll : Text → ℕ → Load → Option Text → Text → Type 0
+ReadsAll bytes limit Done left into = (length bytes ≤ limit) × ((into ≡ bytes) × (left ≡ Some []))
+ReadsAll bytes limit Long left into = (limit < length bytes) × ((into ≡ take (limit + 1) bytes) × (left ≡ Some (drop (limit + 1) bytes)))
+ReadsAll bytes limit LoadFailed left into = into ≡ []
+ReadsAll bytes limit Memory left into = into ≡ []

@@ -3,7 +3,7 @@
 
 ghost use Rattle.std.specs.Prelude.{◌≡◌, ℕ, ◌<◌, ◌≤◌, List, [], length, take, drop, Option, IfOk, OnOk, OnErr};
 ghost use Rattle.cb_model.specs.Outside.{Rose, Wrote, bytes_named};
-ghost use Rattle.cb_host.specs.Host.{IfTold, HasLength, Loads, Reads};
+ghost use Rattle.cb_host.specs.Host.{IfTold, HasLength, Loads, Reads, ReadsAll};
 
 pub use host::{HostFiles, HostInput, HostOutput};
 pub use memory::{MemFiles, MemSink, MemSource};
@@ -102,6 +102,38 @@ pub fn write_all<S: Sink>(out: &mut S, piece: &[u8]) -> Result<(), Failed>
         at += out.write(&piece[at..])?;
     }
     Ok(())
+}
+
+// How many bytes are asked of a source at most at a time.
+const PIECE: usize = 8192;
+
+/// Reads a source to its end into an empty buffer, or to one byte past the limit, which is at most 4,294,967,295. The
+/// buffer is empty after a failed read and where there is no memory for the bytes.
+pub fn read_within<I: Source>(source: &mut I, into: &mut Vec<u8>, limit: u64) -> Load
+    requires empty { into.old.items ≡ [] }
+    requires limit { limit ≤ 4294967295 }
+    ensures bytes { IfTold (I.left source.old) (λ bytes. ReadsAll bytes limit result (I.left source.new) into.new.items) }
+    ensures length { HasLength limit result into.new.items }
+    ensures count { I.faults source.old ≤ I.faults source.new }
+    ensures failed { result ≡ Load.Failed → Rose (I.faults source.old) (I.faults source.new) }
+{
+    let limit = limit as usize;
+    let mut piece = [0; PIECE];
+    while into.len() <= limit {
+        let most = PIECE.min(limit + 1 - into.len());
+        let Ok(n) = source.read(&mut piece[..most]) else {
+            into.clear();
+            return Load::Failed;
+        };
+        if n == 0 {
+            return Load::Done;
+        }
+        if into.extend_from_slice(&piece[..n]).is_err() {
+            into.clear();
+            return Load::Memory;
+        }
+    }
+    Load::Long
 }
 
 #[cfg(test)]

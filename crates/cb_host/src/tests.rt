@@ -76,6 +76,27 @@ fn reads_from_memory_in_steps(rt: HostRuntime) -> Result<(), Fail> {
 }
 
 #[test]
+fn reads_to_the_end_or_past_the_limit(rt: HostRuntime) -> Result<(), Fail> {
+    for (limit, failing, load, held) in [
+        (5, 9, Load::Done, "abcde"),
+        (4, 9, Load::Long, "abcde"),
+        (2, 9, Load::Long, "abc"),
+        (5, 2, Load::Failed, ""),
+    ] {
+        let bytes = Vec::from_slice(rt.alloc(), b"abcde")?;
+        let mut source = MemSource::new(bytes, 2, [failing].to_vec(rt.alloc())?);
+        let mut into = Vec::new(rt.alloc());
+        assert_eq!(rt;
+            read_within(&mut source, &mut into, limit),
+            load,
+            "up to {limit}"
+        );
+        assert_eq!(rt; into.as_slice(), held.as_bytes(), "up to {limit}");
+    }
+    Ok(())
+}
+
+#[test]
 fn reads_all_there_is_room_for(rt: HostRuntime) -> Result<(), Fail> {
     let mut source = SureSource::new(Vec::from_slice(rt.alloc(), b"abcde")?);
     let mut buf = [b'.'; 3];
