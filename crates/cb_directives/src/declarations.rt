@@ -6,7 +6,7 @@ ghost use Rattle.std.specs.Option.{option_map};
 ghost use Rattle.cb_model.specs.declared.When.TheVariants as when;
 ghost use Rattle.cb_model.specs.Forms.{form_of};
 ghost use Rattle.cb_model.specs.Loading.{words_named};
-ghost use Rattle.cb_model.specs.Directives.{nothing, has_sign, looked_up, accept, constant_argument, sorts_argument, delay_argument, argument, nonvar_at_bool, sorts_of};
+ghost use Rattle.cb_model.specs.Directives.{Sign, nothing, has_sign, looked_up, accept, constant_argument, sorts_argument, delay_argument, argument, nonvar_at_bool, sorts_of};
 ghost use Rattle.cb_directives.specs.Refusals.{IsFault};
 ghost use Rattle.cb_directives.specs.Checks.{never_waits, check_other, check_delay, arguments_of, Accepts, Refuses};
 
@@ -31,13 +31,13 @@ pub struct Declarations<'s> {
 impl<'s> Model for Declarations<'s> {
     ghost use Rattle.std.specs.Prelude.{◌≤◌, length};
     ghost use Rattle.cb_model.specs.Directives.{Declared};
-    ghost use Rattle.cb_directives.specs.Kept.{AreDeclared};
+    ghost use Rattle.cb_directives.specs.Kept.{AreDeclared, AreCounted};
 
     ghost Value = { Declared };
 
     ghost view = { λ d. record { constants = d.constants; sorts = d.sorts; demons = d.demons; delays = d.delays } };
 
-    ghost invariant = { λ d. (length d.constants ≤ 4096) × AreDeclared d.demons d.sorts };
+    ghost invariant = { λ d. (length d.constants ≤ 4096) × AreDeclared d.demons d.sorts × AreCounted d.sorts };
 }
 
 impl<'s> Declarations<'s> {
@@ -91,6 +91,13 @@ impl<'s> Declarations<'s> {
             Some(sorts) => Some(sorts.as_slice()),
             None => None,
         }
+    }
+
+    /// A law: a name has as many sorts as arguments.
+    pub fn counted(&self)
+        ensures { (a : Sign) → length (sorts_of self.now a) ≡ a.1 }
+    {
+        let _ = &self.sorts;
     }
 
     /// Whether the clauses of a predicate are demon rules.

@@ -24,13 +24,13 @@ returns-then-has c =
     (subst (λ (d : Declared). length d.constants ≤ 4095) c.self.view_is room) (subst (λ (d : Declared). true ≡ list_any (bytes_eq c.in-Some.name.now) d.constants) c.self.view_is c.if-has.ensures)
 
 pub invariant_of-self : goal.invariant_of-self
-invariant_of-self c = (subst (λ (l : List Text). length l ≤ 4096) (sym c.in_default-add.ensures.refused) c.self.invariant.0, c.self.invariant.1)
+invariant_of-self c = (subst (λ (l : List Text). length l ≤ 4096) (sym c.in_default-add.ensures.refused) c.self.invariant.0, c.self.invariant.1, c.self.invariant.2)
 
 pub invariant_of-self-2 : goal.invariant_of-self-2
 invariant_of-self-2 c =
     let room : length c.self.inside.constants ≤ 4095 = omega (arith, c.len.ensures) in
     let names = added_name c.self.inside.constants c.add.new.self c.in-Some.name.now c.if-has.ensures c.in-Ok.ensures.added in
-    (few_names c.self.inside.constants c.add.new.self c.in-Some.name.now room names, c.self.invariant.1)
+    (few_names c.self.inside.constants c.add.new.self c.in-Some.name.now room names, c.self.invariant.1, c.self.invariant.2)
 
 pub returns : goal.returns
 returns c =

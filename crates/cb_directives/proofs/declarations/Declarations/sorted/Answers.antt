@@ -2,8 +2,9 @@ use Rattle.std.proofs.Common.{◌≡◌, ◌++◌, [], ◌∷◌, true, false, L
 use Rattle.std.proofs.lemmas.Result.{err_from_is_err_and}
 use Rattle.cb_model.specs.Forms.{form_of}
 use Rattle.cb_model.specs.Directives.{Sign, Declared, has_sign, sorts_argument, accept}
-use Rattle.cb_directives.specs.Kept.{AreDeclared}
+use Rattle.cb_directives.specs.Kept.{AreDeclared, AreCounted}
 use Rattle.cb_directives.proofs.Arguments.{sorts_other, sorts_none, sorts_reserved, sorts_twice, sorts_plain, sorts_demon, more_sorts, more_demons, declared_of}
+use Rattle.cb_directives.proofs.Counted.{counted_more, words_count}
 use Rattle.cb_directives.proofs.declarations.Declarations.sorted.Goals as goal
 
 pub returns-in_default : goal.returns-in_default
@@ -27,12 +28,13 @@ pub insert-requires : goal.insert-requires
 insert-requires c = sym c.if-has.ensures
 
 pub invariant_of-self : goal.invariant_of-self
-invariant_of-self c = (c.self.invariant.0, subst (AreDeclared c.self.inside.demons) (sym c.in_default-insert.ensures.refused) c.self.invariant.1)
+invariant_of-self c =
+    (c.self.invariant.0, subst (AreDeclared c.self.inside.demons) (sym c.in_default-insert.ensures.refused) c.self.invariant.1, subst AreCounted (sym c.in_default-insert.ensures.refused) c.self.invariant.2)
 
 pub invariant_of-self-then-not-demon : goal.invariant_of-self-then-not-demon
 invariant_of-self-then-not-demon c =
     let i = c.self.inside in
-    (c.self.invariant.0, more_sorts (declared_of i.constants i.sorts i.demons i.delays) c.insert.new.self _ c.in_ok-sorts.sorts c.in-Ok.ensures.added c.self.invariant.1)
+    (c.self.invariant.0, more_sorts (declared_of i.constants i.sorts i.demons i.delays) c.insert.new.self _ c.in_ok-sorts.sorts c.in-Ok.ensures.added c.self.invariant.1, counted_more c.self.inside.sorts c.insert.new.self (c.in-Some.name.now, length c.in-Some.args.now) c.in_ok-sorts.sorts c.in-Ok.ensures.added c.self.invariant.2 (words_count c.in-Some.args.now c.in_ok-sorts.sorts c.in_ok-sorts.ensures))
 
 pub returns-then-not-demon : goal.returns-then-not-demon
 returns-then-not-demon c =
@@ -47,6 +49,7 @@ invariant_of-self-in_default-add c =
       c.self.invariant.0,
       subst (λ (l : List Sign). AreDeclared l c.insert.new.self) (sym c.in_default-add.ensures.refused)
           (more_sorts (declared_of i.constants i.sorts i.demons i.delays) c.insert.new.self _ c.in_ok-sorts.sorts c.in-Ok.ensures.added c.self.invariant.1),
+      counted_more c.self.inside.sorts c.insert.new.self (c.in-Some.name.now, length c.in-Some.args.now) c.in_ok-sorts.sorts c.in-Ok.ensures.added c.self.invariant.2 (words_count c.in-Some.args.now c.in_ok-sorts.sorts c.in_ok-sorts.ensures),
     )
 
 pub invariant_of-self-2 : goal.invariant_of-self-2
@@ -55,6 +58,7 @@ invariant_of-self-2 c =
       c.self.invariant.0,
       more_demons (declared_of i.constants i.sorts i.demons i.delays) c.add.new.self c.insert.new.self (c.in-Some.name.now, length c.in-Some.args.now) c.in_ok-sorts.sorts c.in-Ok.ensures.added
           c.self.invariant.1 c.in-Ok-add.ensures.added,
+      counted_more c.self.inside.sorts c.insert.new.self (c.in-Some.name.now, length c.in-Some.args.now) c.in_ok-sorts.sorts c.in-Ok.ensures.added c.self.invariant.2 (words_count c.in-Some.args.now c.in_ok-sorts.sorts c.in_ok-sorts.ensures),
     )
 
 pub returns : goal.returns
