@@ -15,11 +15,11 @@ use Rattle.cb_ops.specs.Ops.{Agree, DependsOn, IsCofactor, IsLeastTrue, IsLeastS
 use Rattle.cb_ops.proofs.Ite.{put-id, put-same, put-other, listed, cofactor-at, cofactor-self}
 
 -- the level is below all of the list
-abbrev AllAbove : ℕ → List ℕ → Type 0
+abbrev pub AllAbove : ℕ → List ℕ → Type 0
 AllAbove l [] = Unit {0}
 AllAbove l (k ∷ ks) = (l < k) × AllAbove l ks
 
-abbrev Rising : List ℕ → Type 0
+abbrev pub Rising : List ℕ → Type 0
 Rising [] = Unit {0}
 Rising (l ∷ ls) = AllAbove l ls × Rising ls
 
@@ -31,7 +31,7 @@ rising-pairs : (ls : List ℕ) → ((i j : ℕ) → i < j → j < length ls → 
 rising-pairs [] h = tt
 rising-pairs (l ∷ ls) h = (above-from l ls (λ j q. h 0 (suc j) (omega arith) (omega arith)), rising-pairs ls (λ i j p q. h (suc i) (suc j) (omega arith) (omega arith)))
 
-rising-from : (ls : List ℕ) → IsStrictlyIncreasing ls → Rising ls
+pub rising-from : (ls : List ℕ) → IsStrictlyIncreasing ls → Rising ls
 rising-from ls h = let all : AllPairs (λ (x y : ℕ). x < y) ls = AllPairs-from_increasing ls h in rising-pairs ls (λ i j p q. all i j 0 p q)
 
 rising-drop : (i : ℕ) (ls : List ℕ) → Rising ls → Rising (drop i ls)
@@ -39,14 +39,14 @@ rising-drop zero ls h = h
 rising-drop (suc i) [] h = tt
 rising-drop (suc i) (l ∷ ls) h = rising-drop i ls h.1
 
-above-any : (l k : ℕ) (ls : List ℕ) → AllAbove l ls → list_any (nat_eq k) ls ≡ true → l < k
+pub above-any : (l k : ℕ) (ls : List ℕ) → AllAbove l ls → list_any (nat_eq k) ls ≡ true → l < k
 above-any l k [] h any = absurd (true≢false (sym any))
 above-any l k (m ∷ ms) h any = elim (cases_Bool (nat_eq k m)) [
   | inl same ↦ let e : k ≡ m = eqb-true k m same in let lt : l < m = h.0 in omega arith
   | inr other ↦ above-any l k ms h.1 (sym (ap (λ c. c || list_any (nat_eq k) ms) other) ∙ any)
 ]
 
-agree-above : (l : ℕ) (ls : List ℕ) (a b : Bits) (x : Bool) → AllAbove l ls → Agree ls a b → Agree ls (put l x a) (put l x b)
+pub agree-above : (l : ℕ) (ls : List ℕ) (a b : Bits) (x : Bool) → AllAbove l ls → Agree ls a b → Agree ls (put l x a) (put l x b)
 agree-above l [] a b x h same = tt
 agree-above l (k ∷ ks) a b x h same =
     let lt : l < k = h.0 in
@@ -73,7 +73,7 @@ module _ (ts : List Triple) (n l : ℕ) (rest : List ℕ) where
     | inr constant ↦ omega arith
   ]
 
-  side-depends : (bit : Bool) (r : ℕ) → IsCofactor ts n l bit r → DependsOn ts n (l ∷ rest) → AllAbove l rest → DependsOn ts r rest
+  pub side-depends : (bit : Bool) (r : ℕ) → IsCofactor ts n l bit r → DependsOn ts n (l ∷ rest) → AllAbove l rest → DependsOn ts r rest
   side-depends bit r c d above = record {
     agrees = λ a b h. c.function a ∙ d.agrees (put l bit a) (put l bit b) (put-same a l l bit refl ∙ sym (put-same b l l bit refl), agree-above l rest a b bit above h) ∙ sym (c.function b);
   }

@@ -1,0 +1,4 @@
+pub mod Built
+pub mod Walking
+pub mod Order
+pub mod Counting

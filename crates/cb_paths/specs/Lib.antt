@@ -1,0 +1,4 @@
+pub mod Products
+pub mod Walk
+pub mod Gives
+pub mod Counted
