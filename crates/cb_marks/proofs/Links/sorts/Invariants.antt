@@ -1,0 +1,5 @@
+use Rattle.cb_marks.specs.Marks.{AreSorts}
+use Rattle.cb_marks.proofs.Links.sorts.Given as goal
+
+abbrev pub invariant-loop-thing : goal.invariant-loop-thing
+invariant-loop-thing l = AreSorts l.self l.thing l.sorts
