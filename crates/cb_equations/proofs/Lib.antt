@@ -1,3 +1,5 @@
 mod Runs
 mod Shapes
 mod Lines
+mod Scope
+mod Goals

@@ -4,6 +4,7 @@
 
 ghost use Rattle.cb_equations.specs.Runs.{AnsweredOnce, NotAnswered, TooManyVariables, GoesOn};
 ghost use Rattle.cb_equations.specs.Lines.{AllLeaves, GivesBits, LineOfBits};
+ghost use Rattle.cb_equations.specs.Scope.{SidesInScope, EquationsRead};
 
 /// A query of solvable Boolean equations has one answer, whose branch has all of them.
 pub fn answered_once()
@@ -38,4 +39,14 @@ pub fn gives_bits()
 /// The line of an answer whose printed variables are Boolean.
 pub fn line_of_bits()
     ensures { LineOfBits }
+{}
+
+/// The sides of Boolean equations without a clash have only constants and variables that there are.
+pub fn sides_in_scope()
+    ensures { SidesInScope }
+{}
+
+/// A body without a clash is of Boolean equations exactly where the goals and the sorts that it stands for are.
+pub fn equations_read()
+    ensures { EquationsRead }
 {}
