@@ -129,6 +129,62 @@ fn says_what_is_not_built(rt: HostRuntime) -> Result<(), Fail> {
 }
 
 #[test]
+fn refuses_what_is_not_read(rt: HostRuntime) -> Result<(), Fail> {
+    let mut deep = Vec::from_slice(rt.alloc(), b"p(0).\nq(")?;
+    for _ in 0..256 {
+        deep.push(b'(')?;
+    }
+    let cases: [(&[u8], &[u8]); 12] = [
+        (b"p(0", b"error: line 1: unfinished clause\n"),
+        (b"p.\nq(0,\n1", b"error: line 2: unfinished clause\n"),
+        (
+            b"p :- 99999999999999999999 = X.",
+            b"error: byte 5: number out of range\n",
+        ),
+        (b"p('ab", b"error: byte 2: unclosed quote\n"),
+        (b"p(&).", b"error: byte 2: unexpected byte\n"),
+        (b"p(0) q 'r", b"error: byte 7: unclosed quote\n"),
+        (b"p(0).\np :- .", b"error: line 2: syntax\n"),
+        (b"p(0)\n, q.", b"error: line 2: syntax\n"),
+        (deep.as_slice(), b"error: line 2: nested too deep\n"),
+        (b"", b"error: not built yet\n"),
+        (b"% nothing", b"error: not built yet\n"),
+        (b"p(0).", b"error: not built yet\n"),
+    ];
+    for (file, want) in cases {
+        let (status, text) = run(rt.alloc(), "verify F m 1000", file, 1000, 0)?;
+        assert_eq!(rt; text.as_slice(), want, "{}", file.len());
+        assert_eq!(rt; status, 2, "{}", file.len());
+    }
+    Ok(())
+}
+
+#[test]
+fn verifies_between_comments_and_tabs(rt: HostRuntime) -> Result<(), Fail> {
+    let text = b"% half adder \xC3\xA9\r\nmodule('half_adder',\t[A,B], [S,C], % two gates\n\
+        [xor([A,B],[S]), and([A,(B)],[C])]).\nspec(half_adder, [A,B], [(A # B), A * B]). %";
+    let (status, text) = run(rt.alloc(), "verify F half_adder max", text, 1000, 0)?;
+    assert_eq!(rt; text.as_slice(), b"verified half_adder\n".as_slice());
+    assert_eq!(rt; status, 0);
+    Ok(())
+}
+
+#[test]
+fn says_that_other_clauses_are_not_built(rt: HostRuntime) -> Result<(), Fail> {
+    let file = format!(in rt.alloc(); "{HALF_ADDER}p(0).\n")?;
+    let (status, text) = run(
+        rt.alloc(),
+        "verify F half_adder max",
+        file.as_bytes(),
+        1000,
+        0,
+    )?;
+    assert_eq!(rt; text.as_slice(), b"error: not built yet\n".as_slice());
+    assert_eq!(rt; status, 2);
+    Ok(())
+}
+
+#[test]
 fn limits_the_file(rt: HostRuntime) -> Result<(), Fail> {
     for (count, want) in [
         (4194304, b"error: not built yet\n".as_slice()),

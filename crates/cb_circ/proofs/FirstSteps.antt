@@ -1,10 +1,9 @@
 -- From the numbered nets, gates and expressions to the first form.
-use Rattle.std.proofs.Common.{◌≡◌, ◌≢◌, ℕ, suc, ◌+◌, ◌<◌, ◌≤◌, ◌^◌, Bool, true, false, not, IsTrue, ◌↔◌, nat_eq, List, [], ◌∷◌, ◌++◌, map, length, codes, bytes_eq, Contains, Bor, refl, sym, ◌∙◌, ap, subst, arith, length-append}
+use Rattle.std.proofs.Common.{◌≡◌, ℕ, ◌+◌, ◌<◌, ◌≤◌, ◌^◌, Bool, true, false, not, IsTrue, ◌↔◌, nat_eq, List, [], ◌∷◌, ◌++◌, map, length, Some, None, bytes_eq, Contains, Bor, refl, sym, ◌∙◌, ap, subst, arith, length-append}
 use Rattle.std.specs.List.{flat_map}
 use Rattle.std.specs.Prelude.{nat_lt, ◌&&◌}
 use Rattle.std.proofs.lemmas.List.{length-map}
 use Rattle.std.proofs.lemmas.Bool.Decides.{nat_tests, Decides-eqb}
-use Rattle.cb_model.specs.declared.Kind.TheVariants as kind
 use Rattle.cb_model.specs.declared.Gate.{Gate}
 use Rattle.cb_model.specs.declared.Circuit.{Circuit}
 use Rattle.cb_model.specs.declared.Expr.{Expr}
@@ -14,27 +13,26 @@ use Rattle.cb_model.specs.declared.Expr.TheFolds.{fold-roll-Expr}
 use Rattle.cb_model.specs.Text.{Text}
 use Rattle.cb_model.specs.Bits.{Each, all_of}
 use Rattle.cb_model.specs.Values.{in_scope_step, in_scope}
-use Rattle.cb_model.specs.Grammar.{Op, Plus, Hash, Star}
+use Rattle.cb_model.specs.Grammar.{Op, Plus, Hash, Star, FormClause}
 use Rattle.cb_model.specs.Circuits.{Module}
 use Rattle.cb_model.specs.Sound.{IsSound}
-use Rattle.cb_circ.specs.FirstForm.{Word, Mark, with_commas, behind_commas, instance_words, module_words, spec_words, PortPair, PairSpec, op_expr, pair_expr, IsFirst, IsPairGate, driven_nets}
-use Rattle.cb_lex.specs.declared.Token.{Token}
-use Rattle.cb_circ.specs.declared.stop.Close.TheVariants as close
+use Rattle.cb_model.specs.Written.{AreClauses}
+use Rattle.cb_circ.specs.FirstForm.{PortPair, PairSpec, op_expr, pair_expr, IsFirst, driven_nets, facts_of}
 use Rattle.cb_circ.specs.declared.items.PairGate.{PairGate}
 use Rattle.cb_circ.specs.declared.items.Pair.{Pair}
 use Rattle.cb_circ.specs.declared.facts.ModuleFact.{ModuleFact}
 use Rattle.cb_circ.specs.declared.facts.SpecFact.{SpecFact}
-use Rattle.cb_circ.specs.Shapes.{net_words, instance_of, pair_of}
-use Rattle.cb_circ.specs.Written.{words, listed, after_words}
-use Rattle.cb_circ.specs.Facts.{head_words, module_of, spec_of, HasPairPins, IsPlainModule, IsPlainSpec, IsText, NoText}
+use Rattle.cb_circ.specs.Shapes.{instance_of, pair_of}
+use Rattle.cb_circ.specs.Reader.{both_in}
+use Rattle.cb_circ.specs.Facts.{module_of, spec_of}
 use Rattle.cb_circ.specs.Numbers.{number, numbered, AllFit, NumbersGates, NumbersNets, AreNew, NumbersPairs, NoPairs, IsWellMade, IsCircuitOf, Matches}
-use Rattle.cb_circ.specs.First.{IsFirstTokens, IsNotFirstTokens}
+use Rattle.cb_circ.specs.First.{IsNotFirstForm, IsFirstSound}
 use Rattle.cb_circ.proofs.Flattened.{circuit_of-pairs}
 use Rattle.cb_circ.proofs.Firsts.{IsNamed, Each-append, Each-left, Each-right, Each-weaker, Each-Contains, fit_from_first, fit_gates, fit_driven, fit_named, fit_outs_named, number_below, length-numbered, length-instances, length-driven, pairs_sound}
 use Rattle.cb_circ.proofs.NetSteps.{names_of}
 use Rattle.cb_circ.proofs.Places.{bytes_eq-same}
 use Rattle.cb_circ.proofs.NumberSteps.{instances, pairs}
-use Rattle.cb_circ.proofs.FactSteps.{nets, module_rest, module_words-append}
+use Rattle.cb_circ.proofs.Forms.{both_read, both_in-are, few_nets}
 
 -- ---- the circuit
 
@@ -79,45 +77,12 @@ module _ (f : ModuleFact) (old new : List Text) (gs : List Gate) (tabled : (old 
         outputs = ap length numbers ∙ length-map (names_of f.outputs) (number all);
       }
 
--- ---- how many nets a text has
-
-length-behind_commas : (xs : List (List Word)) → length xs ≤ length (behind_commas xs)
-length-behind_commas [] = omega arith
-length-behind_commas (x ∷ xs) = let h = length-behind_commas xs in omega (arith, length-append x (behind_commas xs))
-
-length-listed : (xs : List (List Word)) (rest : List Word) → length xs + length rest ≤ length (listed xs rest)
-length-listed [] rest = omega arith
-length-listed (x ∷ xs) rest =
-    let h = length-behind_commas xs in
-    omega (arith, length-append (with_commas (x ∷ xs)) (Mark kind.RightBracket ∷ rest), length-append x (behind_commas xs))
-
-length-words : (ts : List Token) → length (words ts) ≡ length ts
-length-words [] = refl
-length-words (t ∷ ts) = ap suc (length-words ts)
-
-length-head_words : (head name : Text) (rest : List Word) → length (head_words head name rest) ≡ 5 + length rest
-length-head_words head name rest = omega arith
-
--- the inputs and the instances are no more than the tokens
-pub few_nets : (ts : List Token) (f : ModuleFact) (g : SpecFact) → IsText ts f g → length f.inputs + length f.instances ≤ length ts
-few_nets ts f g text =
-    let m = module_of f in
-    let rest = spec_words (spec_of g) in
-    let last = after_words close.Last rest in
-    let three = listed (map instance_words m.instances) last in
-    let two = listed (nets m.outputs) (after_words close.Next three) in
-    let e : length ts ≡ length (module_words m ++ rest) = sym (length-words ts) ∙ ap length text.is in
-    let k : length (module_words m ++ rest) ≡ 5 + length (module_rest m rest) = ap length (module_words-append m rest) ∙ length-head_words (codes "module") m.name (module_rest m rest) in
-    omega (
-      arith,
-      length-listed (nets m.inputs) (after_words close.Next two),
-      length-listed (nets m.outputs) (after_words close.Next three),
-      length-listed (map instance_words m.instances) last,
-      length-map m.inputs net_words,
-      length-map f.inputs (λ x. x.now),
-      length-map m.instances instance_words,
-      length-map f.instances instance_of,
-    )
+-- the inputs and the instances of the facts are few
+pub few_facts : (cs : List FormClause) (f : ModuleFact) (g : SpecFact) → AreClauses 4194304 cs → both_in (facts_of cs) ≡ Some (module_of f, spec_of g) →
+    length f.inputs + length f.instances ≤ 4194304
+few_facts cs f g w e =
+    let h = few_nets cs (module_of f) (spec_of g) w e in
+    omega (arith, length-map f.inputs (λ x. x.now), length-map f.instances instance_of)
 
 -- ---- the same of a slice that is lent of the fact
 
@@ -158,67 +123,52 @@ pairs_scope ports (p ∷ ps) l r =
 
 -- ---- the first form, and its parts
 
-some_of-length : {A B : Type 0} (xs : List A) (ys : List B) → length xs ≡ length ys → ys ≢ [] → xs ≢ []
-some_of-length xs ys e n z = n (none ys (sym e ∙ ap length z))
-  where
-    none : {B : Type 0} (ys : List B) → length ys ≡ 0 → ys ≡ []
-    none [] h = refl
-    none (y ∷ ys) h = absurd (omega arith)
-
 module _ (name : Text) (m : Module) (s : PairSpec) (first : IsFirst name m s) where
-  plain_module : IsPlainModule m
-  plain_module = record {
-    inputs = first.inputs;
-    outputs = first.outputs;
-    instances = first.instances;
-    pins = Each-weaker IsPairGate HasPairPins m.instances (λ i g. record { ins = g.ins; outs = g.outs }) first.gates;
-  }
-
-  plain_spec : IsPlainSpec s
-  plain_spec = record { ports = some_of-length s.ports m.inputs first.port_each first.inputs; pairs = some_of-length s.pairs m.outputs first.pair_each first.outputs }
-
-  pub first_matches : Matches name m s
+  first_matches : Matches name m s
   first_matches = record { module_name = first.module_name; spec_name = first.spec_name; ports = first.port_each; pairs = first.pair_each }
 
-  pub first_made : IsWellMade m
+  first_made : IsWellMade m
   first_made = record {
     inputs = record { differ = first.inputs_differ; named = Each-left IsNamed m.inputs m.outputs (Each-left IsNamed (m.inputs ++ m.outputs) (flat_map (λ i. i.ins ++ i.outs) m.instances) first.named_nets) };
     instances = fit_from_first m.inputs m.instances first.gates first.driven (Each-right IsNamed (m.inputs ++ m.outputs) (flat_map (λ i. i.ins ++ i.outs) m.instances) first.named_nets);
     outputs = first.driven_outputs;
   }
 
-  pub first_ports : AreNew s.ports
+  first_ports : AreNew s.ports
   first_ports = record { differ = first.ports_differ; named = first.named_ports }
 
-pub no_first-text : (ts : List Token) (name : Text) → NoText ts → IsNotFirstTokens ts name
-no_first-text ts name lacks m s e first = lacks m s (plain_module name m s first) (plain_spec name m s first) e
+pub no_first-facts : (cs : List FormClause) (name : Text) → both_in cs ≡ None → IsNotFirstForm cs name
+no_first-facts cs name lacks m s f = let e : both_in cs ≡ Some (m, s) = both_read cs name m s f in absurd (cc)
 
-module _ (ts : List Token) (name : Text) (f : ModuleFact) (g : SpecFact) (text : IsText ts f g) where
-  not_first : (IsFirst name (module_of f) (spec_of g) → ⊥) → IsNotFirstTokens ts name
-  not_first lacks m s e first =
-      let o = text.only m s (plain_module name m s first) (plain_spec name m s first) e in
-      lacks (subst (λ k. IsFirst name k (spec_of g)) o.0 (subst (IsFirst name m) o.1 first))
+module _ (cs : List FormClause) (name : Text) (f : ModuleFact) (g : SpecFact) (read : both_in cs ≡ Some (module_of f, spec_of g)) where
+  -- what is read is the only module and specification of the facts
+  not_first : (IsFirst name (module_of f) (spec_of g) → ⊥) → IsNotFirstForm cs name
+  not_first lacks m s form =
+      let e : both_in cs ≡ Some (m, s) = both_read cs name m s form in
+      let o : (m, s) ≡ (module_of f, spec_of g) = cc in
+      lacks (subst (λ (p : Module × PairSpec). IsFirst name p.0 p.1) o form.first)
 
-  pub no_first-match : (Matches name (module_of f) (spec_of g) → ⊥) → IsNotFirstTokens ts name
+  pub no_first-match : (Matches name (module_of f) (spec_of g) → ⊥) → IsNotFirstForm cs name
   no_first-match lacks = not_first (λ first. lacks (first_matches name (module_of f) (spec_of g) first))
 
-  pub no_first-circuit : (IsWellMade (module_of f) → ⊥) → IsNotFirstTokens ts name
+  pub no_first-circuit : (IsWellMade (module_of f) → ⊥) → IsNotFirstForm cs name
   no_first-circuit lacks = not_first (λ first. lacks (first_made name (module_of f) (spec_of g) first))
 
-  pub no_first-ports : (a : List (Bor Text)) → a ≡ g.ports → (AreNew (names_of a) → ⊥) → IsNotFirstTokens ts name
+  pub no_first-ports : (a : List (Bor Text)) → a ≡ g.ports → (AreNew (names_of a) → ⊥) → IsNotFirstForm cs name
   no_first-ports a e lacks = not_first (λ first. subst (λ l. AreNew (names_of l) → ⊥) e lacks (first_ports name (module_of f) (spec_of g) first))
 
-  pub no_first-pairs : (a : List (Bor Text)) (b : List Pair) (ports : List Text) → a ≡ g.ports → b ≡ g.pairs → IsTable ports a → NoPairs ports (pairs b) → IsNotFirstTokens ts name
+  pub no_first-pairs : (a : List (Bor Text)) (b : List Pair) (ports : List Text) → a ≡ g.ports → b ≡ g.pairs → IsTable ports a → NoPairs ports (pairs b) → IsNotFirstForm cs name
   no_first-pairs a b ports ea eb t lacks =
       let same : ports ≡ names_of g.ports = t.0 ∙ ap names_of ea in
       let there : NoPairs (names_of g.ports) (pairs g.pairs) = subst (λ l. NoPairs l (pairs g.pairs)) same (subst (λ l. NoPairs ports (pairs l)) eb lacks) in
       not_first (λ first. there first.left_ports first.right_ports)
 
   pub is_first : (c : Circuit) (es : List Expr) (a : List (Bor Text)) (b : List Pair) (ports : List Text) → Matches name (module_of f) (spec_of g) → IsCircuitOf (module_of f) c →
-      a ≡ g.ports → b ≡ g.pairs → IsTable ports a → NumbersPairs ports (pairs b) es → IsFirstTokens ts name (record { circuit = c; names = f.inputs; spec = es })
+      a ≡ g.ports → b ≡ g.pairs → IsTable ports a → NumbersPairs ports (pairs b) es → IsFirstSound cs name (record { circuit = c; names = f.inputs; spec = es })
   is_first c es a b ports match made ea eb t numbered =
       let m = module_of f in
       let s = spec_of g in
+      let facts = both_in-are cs m s read in
       let table : IsTable ports g.ports = subst (IsTable ports) ea t in
       let same : ports ≡ s.ports = table.0 in
       let w = made.well_made in
@@ -227,31 +177,33 @@ module _ (ts : List Token) (name : Text) (f : ModuleFact) (g : SpecFact) (text :
       let all_named : Each IsNamed all = Each-append IsNamed m.inputs (driven_nets m.instances) w.inputs.named (fit_outs_named m.inputs m.instances w.instances) in
       let outputs_named : Each IsNamed m.outputs = Each-weaker (Contains all) IsNamed m.outputs (λ x k. Each-Contains IsNamed all x all_named k) w.outputs in
       let wide : length s.ports ≡ c.inputs = match.ports ∙ sym made.ports in
+      let first : IsFirst name m s = record {
+        module_name = match.module_name;
+        spec_name = match.spec_name;
+        inputs = facts.inputs;
+        outputs = facts.outputs;
+        instances = facts.instances;
+        named_nets = Each-append IsNamed (m.inputs ++ m.outputs) (flat_map (λ i. i.ins ++ i.outs) m.instances) (Each-append IsNamed m.inputs m.outputs w.inputs.named outputs_named) (fit_named m.inputs m.instances w.inputs.named w.instances);
+        named_ports = table.1.named;
+        inputs_differ = w.inputs.differ;
+        gates = fit_gates m.inputs m.instances w.instances;
+        driven = fit_driven m.inputs m.instances w.instances;
+        driven_outputs = w.outputs;
+        ports_differ = table.1.differ;
+        port_each = match.ports;
+        pair_each = match.pairs;
+        left_ports = spec.left;
+        right_ports = spec.right;
+      } in
       record {
-        m = m;
-        s = s;
-        is = text.is;
-        first = record {
-          module_name = match.module_name;
-          spec_name = match.spec_name;
-          inputs = text.module_plain.inputs;
-          outputs = text.module_plain.outputs;
-          instances = text.module_plain.instances;
-          named_nets = Each-append IsNamed (m.inputs ++ m.outputs) (flat_map (λ i. i.ins ++ i.outs) m.instances) (Each-append IsNamed m.inputs m.outputs w.inputs.named outputs_named) (fit_named m.inputs m.instances w.inputs.named w.instances);
-          named_ports = table.1.named;
-          inputs_differ = w.inputs.differ;
-          gates = fit_gates m.inputs m.instances w.instances;
-          driven = fit_driven m.inputs m.instances w.instances;
-          driven_outputs = w.outputs;
-          ports_differ = table.1.differ;
-          port_each = match.ports;
-          pair_each = match.pairs;
-          left_ports = spec.left;
-          right_ports = spec.right;
+        form = record {
+          m = m;
+          s = s;
+          form = record { module_line = facts.module_line; spec_line = facts.spec_line; are = facts.are; first = first };
+          circuit = made.is;
+          names = refl;
+          spec = spec.expressions;
         };
-        circuit = made.is;
-        names = refl;
-        spec = spec.expressions;
         sound = made.sound;
         scope = subst (λ n. all_of (map (in_scope 0 n) es) ≡ true) wide (subst (λ l. all_of (map (in_scope 0 (length s.ports)) l) ≡ true) (sym spec.expressions) (pairs_scope s.ports s.pairs spec.left spec.right));
         outputs = ap length spec.expressions ∙ length-map s.pairs (pair_expr s.ports) ∙ match.pairs ∙ sym made.outputs;

@@ -1,10 +1,9 @@
 pub mod Places
 pub mod Flattened
 pub mod Firsts
-pub mod Reading
-pub mod Listed
-pub mod ListSteps
-pub mod FactSteps
+pub mod Stops
+pub mod Forms
+pub mod FormSteps
 pub mod NetSteps
 pub mod NumberSteps
 pub mod FirstSteps

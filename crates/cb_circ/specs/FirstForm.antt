@@ -1,66 +1,36 @@
--- The first form of a file: one flat module of gates with two inputs, and its specification.
-use Rattle.std.specs.Prelude.{◌≡◌, ◌≢◌, ◌⊎◌, ℕ, Bool, true, not, ◌||◌, ◌==◌, List, [], ◌∷◌, ◌++◌, map, length, None, position, unwrap_or, codes, bytes_eq, flat_map, Contains}
-use Rattle.std.specs.List.{list_all}
-use Rattle.cb_model.specs.declared.Kind.{Kind}
-use Rattle.cb_model.specs.declared.Kind.TheVariants as kind
+-- The first form of the facts of a file: one flat module of gates with two inputs, and its specification.
+use Rattle.std.specs.Prelude.{◌≡◌, ◌≢◌, ◌⊎◌, ℕ, true, false, List, [], ◌∷◌, ◌++◌, map, length, position, unwrap_or, codes, bytes_eq, flat_map, Contains, filter}
 use Rattle.cb_model.specs.declared.Expr.{Expr}
 use Rattle.cb_model.specs.declared.Expr.TheVariants as expr
 use Rattle.cb_model.specs.Bits.{Each}
 use Rattle.cb_model.specs.Text.{Text, all_different}
-use Rattle.cb_model.specs.Tokens.{Token, Lexes}
-use Rattle.cb_model.specs.Grammar.{Op, Plus, Hash, Star, op_kind}
+use Rattle.cb_model.specs.Grammar.{Op, Plus, Hash, Star, Form, Forms, Variable, Name, Closed, And, Xor, Or, Last, FormClause, Rule}
+use Rattle.cb_model.specs.Forms.{forms_of}
 use Rattle.cb_model.specs.Circuits.{Module, Instance}
+use Rattle.cb_model.specs.Loading.{is_fact}
 
--- ---- the words of a fact
+-- ---- the form of a fact
 
--- a token as a word: a plain atom, a variable, or another token by its kind
-pub data Word : Type 0 where
-  Name : Text → Word
-  Net : Text → Word
-  Mark : Kind → Word
+-- a list
+abbrev pub list_of : List Form → Form
+list_of fs = Closed (forms_of fs)
 
--- the word of a token with this kind and text
-abbrev pub word_with : Kind → Text → Word
-word_with kind.Atom x = Name x
-word_with kind.Variable x = Net x
-word_with k x = Mark k
-
--- the word of a token
-abbrev pub word_of : Token → Word
-word_of t = word_with t.kind t.text
-
--- each item behind a comma
-abbrev pub behind_commas : List (List Word) → List Word
-behind_commas [] = []
-behind_commas (x ∷ xs) = Mark kind.Comma ∷ (x ++ behind_commas xs)
-
--- the items with commas between them
-abbrev pub with_commas : List (List Word) → List Word
-with_commas [] = []
-with_commas (x ∷ xs) = x ++ behind_commas xs
-
--- a list of items
-abbrev pub list_words : List (List Word) → List Word
-list_words xs = Mark kind.LeftBracket ∷ (with_commas xs ++ (Mark kind.RightBracket ∷ []))
+-- a net
+abbrev pub net_form : Text → Form
+net_form x = Variable x
 
 -- a list of nets
-abbrev pub nets_words : List Text → List Word
-nets_words xs = list_words (map (λ x. Net x ∷ []) xs)
+abbrev pub nets_form : List Text → Form
+nets_form xs = list_of (map net_form xs)
 
 -- an instance: its part, its input pins and its output pins
-abbrev pub instance_words : Instance → List Word
-instance_words i =
-    Name i.part ∷ (Mark kind.LeftParen ∷ (nets_words i.ins ++ (Mark kind.Comma ∷ (nets_words i.outs ++ (Mark kind.RightParen ∷ [])))))
-
--- a fact of a name and three lists
-abbrev pub fact_words : Text → Text → List Word → List Word → List Word
-fact_words head name second others =
-    Name head ∷ (Mark kind.LeftParen ∷ (Name name ∷ (Mark kind.Comma ∷ (second ++ (Mark kind.Comma ∷ (others ++ (Mark kind.RightParen ∷ (Mark kind.Dot ∷ []))))))))
+abbrev pub instance_form : Instance → Form
+instance_form i = Name i.part (forms_of (nets_form i.ins ∷ nets_form i.outs ∷ []))
 
 -- a module fact
-abbrev pub module_words : Module → List Word
-module_words m =
-    fact_words (codes "module") m.name (nets_words m.inputs) (nets_words m.outputs ++ (Mark kind.Comma ∷ list_words (map instance_words m.instances)))
+abbrev pub module_form : Module → Form
+module_form m =
+    Name (codes "module") (forms_of (Name m.name Last ∷ nets_form m.inputs ∷ nets_form m.outputs ∷ list_of (map instance_form m.instances) ∷ []))
 
 -- two ports with an operator between them
 pub record PortPair : Type 0 where
@@ -74,13 +44,19 @@ pub record PairSpec : Type 0 where
   pub ports : List Text
   pub pairs : List PortPair
 
+-- a chain of one operator
+abbrev pub op_form : Op → Forms → Form
+op_form Plus fs = Or fs
+op_form Hash fs = Xor fs
+op_form Star fs = And fs
+
 -- a pair
-abbrev pub pair_words : PortPair → List Word
-pair_words p = Net p.left ∷ (Mark (op_kind p.op) ∷ (Net p.right ∷ []))
+abbrev pub pair_form : PortPair → Form
+pair_form p = op_form p.op (forms_of (net_form p.left ∷ net_form p.right ∷ []))
 
 -- a specification fact
-abbrev pub spec_words : PairSpec → List Word
-spec_words s = fact_words (codes "spec") s.name (nets_words s.ports) (list_words (map pair_words s.pairs))
+abbrev pub spec_form : PairSpec → Form
+spec_form s = Name (codes "spec") (forms_of (Name s.name Last ∷ nets_form s.ports ∷ list_of (map pair_form s.pairs) ∷ []))
 
 -- ---- what they mean
 
@@ -143,15 +119,14 @@ pub record IsFirst (name : Text) (m : Module) (s : PairSpec) : Type 0 where
   pub left_ports : Each (λ p. Contains s.ports p.left) s.pairs
   pub right_ports : Each (λ p. Contains s.ports p.right) s.pairs
 
--- whether a byte is no tab, no carriage return and no beginning of a comment
-abbrev pub is_spare : ℕ → Bool
-is_spare x = not (x == 9 || x == 13 || x == 37)
+-- the facts among clauses: the rules with the head `module/4` or `spec/3`
+abbrev pub facts_of : List FormClause → List FormClause
+facts_of cs = filter is_fact cs
 
--- The text has the words of the module and of the specification and nothing else, with spaces and ends of lines
--- between them at most, and both are in the first form. (No token of theirs holds a tab, a carriage return or `%`.)
-pub record FirstForm (source name : Text) (m : Module) (s : PairSpec) : Type 0 where
-  pub tokens : List Token
-  pub lexes : Lexes 0 1 source tokens None
-  pub spaced : list_all is_spare source ≡ true
-  pub words : map word_of tokens ≡ module_words m ++ spec_words s
+-- The facts are the module's and the specification's and no others, in this order and without a body, and both are in
+-- the first form.
+pub record FirstForm (facts : List FormClause) (name : Text) (m : Module) (s : PairSpec) : Type 0 where
+  pub module_line : ℕ
+  pub spec_line : ℕ
+  pub are : facts ≡ Rule module_line (module_form m) false [] ∷ Rule spec_line (spec_form s) false [] ∷ []
   pub first : IsFirst name m s

@@ -1,5 +1,6 @@
 pub mod FirstForm
-pub mod Written
+pub mod Stops
+pub mod Reader
 pub mod Shapes
 pub mod Facts
 pub mod Numbers

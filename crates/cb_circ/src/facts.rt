@@ -1,12 +1,19 @@
-//! The two facts of a text in the first form.
-ghost use Rattle.std.specs.Prelude.{◌≡◌, ◌+◌, ◌≤◌, length, MatchResult};
-ghost use Rattle.cb_circ.specs.Written.{Refuses};
-ghost use Rattle.cb_circ.specs.Facts.{TookHead, NoHead, TookModule, NoModule, TookSpec, NoSpec, IsText, NoText};
+//! The module and specification facts among the clauses of a file.
+ghost use Rattle.std.specs.Prelude.{◌≡◌, [], ◌∷◌, Some, None, map, MatchOption, MatchResult};
+ghost use Rattle.std.specs.Option.{option_map};
+ghost use Rattle.cb_model.specs.Forms.{form_of, clause_form};
+ghost use Rattle.cb_model.specs.Loading.{is_fact, sign_is};
+ghost use Rattle.cb_circ.specs.FirstForm.{facts_of};
+ghost use Rattle.cb_circ.specs.Stops.{Refuses};
+ghost use Rattle.cb_circ.specs.Facts.{module_of, spec_of};
+ghost use Rattle.cb_circ.specs.Reader.{module_in, spec_in, bare_head, two_heads, both_in};
 
-use crate::items::{Pair, PairGate, starts, text};
+use crate::items::{Pair, PairGate};
 use crate::lists::list;
-use crate::stop::{Close, Stop};
-use cb_lex::{Kind, Token};
+use crate::stop::Stop;
+use crate::terms::{arguments, four, three};
+use cb_directives::{atom, named};
+use cb_model::{RawClause, RawTerm};
 use sqlite_items::Items;
 use std::alloc::Global;
 
@@ -27,72 +34,130 @@ pub(crate) struct SpecFact<'s> {
     pub pairs: Items<Pair<'s>>,
 }
 
-/// The kinds of the first tokens of a fact: its head, its name and the bracket of its first list.
-const HEAD: [Kind; 5] = [
-    Kind::Atom,
-    Kind::LeftParen,
-    Kind::Atom,
-    Kind::Comma,
-    Kind::LeftBracket,
-];
-
-/// The name in a fact with this head that begins at a token.
-fn name_in_fact<'s>(tokens: &[Token<'s>], at: usize, head: &[u8]) -> Result<&'s [u8], Stop>
-    requires { at ≤ length tokens.now }
-    ensures { MatchResult result (λ name. TookHead tokens.now at head.now name.now) (λ e. Refuses e (NoHead tokens.now at head.now)) }
+/// Whether a term has a name with so many arguments.
+fn is_named(term: &RawTerm<'_>, name: &[u8], count: usize) -> bool
+    ensures { result ≡ sign_is (name.now, count) (form_of term.now) }
 {
-    if !starts(tokens, at, &HEAD) {
-        return Err(Stop::Other);
+    match named(term) {
+        Some((found, args)) => name == found && count == args.len(),
+        None => false,
     }
-    if text(tokens, at) != head {
-        return Err(Stop::Other);
-    }
-    Ok(text(tokens, at + 2))
 }
 
-/// The module fact that begins the text, and the place behind it.
-fn module_fact<'s>(alloc: Global, tokens: &[Token<'s>]) -> Result<(ModuleFact<'s>, usize), Stop>
-    ensures { MatchResult result (λ r. TookModule tokens.now r.0 r.1) (λ e. Refuses e (NoModule tokens.now)) }
+/// Whether a clause is a fact of circuits: a rule with the head `module/4` or `spec/3`, with or without a body.
+pub fn is_fact(clause: &RawClause<'_>) -> bool
+    ensures { result ≡ is_fact (clause_form clause.now) }
 {
-    let name = name_in_fact(tokens, 0, b"module")?;
-    let (inputs, at) = list(alloc, tokens, 5, Close::Next)?;
-    let (outputs, at) = list(alloc, tokens, at, Close::Next)?;
-    let (instances, at) = list(alloc, tokens, at, Close::Last)?;
-    let fact = ModuleFact {
+    match clause {
+        RawClause::Directive { .. } => false,
+        RawClause::Rule { head, .. } => is_named(head, b"module", 4) || is_named(head, b"spec", 3),
+    }
+}
+
+/// The first fact among clauses, and the clauses behind it.
+fn next_fact<'c, 's>(
+    clauses: &'c [RawClause<'s>],
+) -> Option<(&'c RawClause<'s>, &'c [RawClause<'s>])>
+    ensures { MatchOption result (facts_of (map clause_form clauses.now) ≡ []) (λ r. facts_of (map clause_form clauses.now) ≡ clause_form r.0.now ∷ facts_of (map clause_form r.1.now)) }
+{
+    for (i, clause) in clauses.iter().enumerate() {
+        if is_fact(clause) {
+            return Some((clause, &clauses[i + 1..]));
+        }
+    }
+    None
+}
+
+/// The head of a rule without a body.
+fn bare_head<'c, 's>(clause: &'c RawClause<'s>) -> Option<&'c RawTerm<'s>>
+    ensures { option_map (λ t. form_of t.now) result ≡ bare_head (clause_form clause.now) }
+{
+    match clause {
+        RawClause::Directive { .. } => None,
+        RawClause::Rule {
+            head,
+            bodied,
+            body,
+            ..
+        } => {
+            if *bodied {
+                return None;
+            }
+            if !body.is_empty() {
+                return None;
+            }
+            Some(head)
+        }
+    }
+}
+
+/// The heads of the facts, where there are two without bodies.
+fn two_heads<'c, 's>(clauses: &'c [RawClause<'s>]) -> Option<(&'c RawTerm<'s>, &'c RawTerm<'s>)>
+    ensures { option_map (λ h. (form_of h.0.now, form_of h.1.now)) result ≡ two_heads (facts_of (map clause_form clauses.now)) }
+{
+    let (first, rest) = next_fact(clauses)?;
+    let (second, rest) = next_fact(rest)?;
+    if next_fact(rest).is_some() {
+        return None;
+    }
+    let module = bare_head(first)?;
+    let spec = bare_head(second)?;
+    Some((module, spec))
+}
+
+/// The module of a fact.
+fn module_fact<'s>(alloc: Global, head: &RawTerm<'s>) -> Result<ModuleFact<'s>, Stop>
+    ensures { MatchResult result (λ f. module_in (form_of head.now) ≡ Some (module_of f)) (λ e. Refuses e (module_in (form_of head.now) ≡ None)) }
+{
+    let Some(args) = arguments(head, b"module") else {
+        return Err(Stop::Other);
+    };
+    let Some((name, inputs, outputs, instances)) = four(args) else {
+        return Err(Stop::Other);
+    };
+    let Some(name) = atom(name) else {
+        return Err(Stop::Other);
+    };
+    let inputs = list(alloc, inputs)?;
+    let outputs = list(alloc, outputs)?;
+    let instances = list(alloc, instances)?;
+    Ok(ModuleFact {
         name,
         inputs,
         outputs,
         instances,
-    };
-    Ok((fact, at))
+    })
 }
 
-/// The specification fact that begins at a token, and the place behind it.
-fn spec_fact<'s>(
-    alloc: Global,
-    tokens: &[Token<'s>],
-    at: usize,
-) -> Result<(SpecFact<'s>, usize), Stop>
-    requires { at ≤ length tokens.now }
-    ensures { MatchResult result (λ r. TookSpec tokens.now at r.0 r.1) (λ e. Refuses e (NoSpec tokens.now at)) }
+/// The specification of a fact.
+fn spec_fact<'s>(alloc: Global, head: &RawTerm<'s>) -> Result<SpecFact<'s>, Stop>
+    ensures { MatchResult result (λ f. spec_in (form_of head.now) ≡ Some (spec_of f)) (λ e. Refuses e (spec_in (form_of head.now) ≡ None)) }
 {
-    let name = name_in_fact(tokens, at, b"spec")?;
-    let (ports, at) = list(alloc, tokens, at + 5, Close::Next)?;
-    let (pairs, at) = list(alloc, tokens, at, Close::Last)?;
-    Ok((SpecFact { name, ports, pairs }, at))
+    let Some(args) = arguments(head, b"spec") else {
+        return Err(Stop::Other);
+    };
+    let Some((name, ports, pairs)) = three(args) else {
+        return Err(Stop::Other);
+    };
+    let Some(name) = atom(name) else {
+        return Err(Stop::Other);
+    };
+    let ports = list(alloc, ports)?;
+    let pairs = list(alloc, pairs)?;
+    Ok(SpecFact { name, ports, pairs })
 }
 
-/// The two facts of which the text is made.
+/// The two facts, where there are no others.
 pub(crate) fn facts<'s>(
     alloc: Global,
-    tokens: &[Token<'s>],
+    clauses: &[RawClause<'s>],
 ) -> Result<(ModuleFact<'s>, SpecFact<'s>), Stop>
-    ensures { MatchResult result (λ r. IsText tokens.now r.0 r.1) (λ e. Refuses e (NoText tokens.now)) }
+    ensures { MatchResult result (λ r. both_in (facts_of (map clause_form clauses.now)) ≡ Some (module_of r.0, spec_of r.1)) (λ e. Refuses e (both_in (facts_of (map clause_form clauses.now)) ≡ None)) }
 {
-    let (module, at) = module_fact(alloc, tokens)?;
-    let (spec, at) = spec_fact(alloc, tokens, at)?;
-    if at != tokens.len() {
+    let Some((module, spec)) = two_heads(clauses) else {
         return Err(Stop::Other);
-    }
+    };
+    let module = module_fact(alloc, module)?;
+    let spec = spec_fact(alloc, spec)?;
     Ok((module, spec))
 }

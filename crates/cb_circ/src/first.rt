@@ -1,27 +1,26 @@
-//! Texts in the first form.
+//! Files whose facts are in the first form.
 ghost use Rattle.std.specs.Prelude.{◌≡◌, ◌+◌, ◌^◌, ◌<◌, ◌≤◌, Bool, List, true, map, length, ◌↔◌, IsTrue, IfOk, IfSome, MatchOption, MatchResult};
-ghost use Rattle.std.specs.List.{list_all};
 ghost use Rattle.cb_model.specs.Bits.{all_of};
 ghost use Rattle.cb_model.specs.Values.{in_scope};
 ghost use Rattle.cb_model.specs.Sound.{IsSound, HasOneValuation};
-ghost use Rattle.cb_circ.specs.FirstForm.{is_spare};
-ghost use Rattle.cb_circ.specs.Written.{Refuses};
+ghost use Rattle.cb_model.specs.Forms.{clause_form};
+ghost use Rattle.cb_model.specs.Written.{AreClauses};
+ghost use Rattle.cb_circ.specs.FirstForm.{facts_of};
+ghost use Rattle.cb_circ.specs.Stops.{Refuses};
 ghost use Rattle.cb_circ.specs.Facts.{module_of, spec_of};
 ghost use Rattle.cb_circ.specs.Numbers.{IsWellMade, IsCircuitOf, Matches};
-ghost use Rattle.cb_circ.specs.First.{IsFirstForm, IsNotFirstForm, IsFirstTokens, IsNotFirstTokens};
+ghost use Rattle.cb_circ.specs.First.{IsFirstForm, IsNotFirstForm, IsFirstSound};
 
 use crate::facts::{ModuleFact, SpecFact, facts};
 use crate::nets::Nets;
 use crate::numbering::{expressions, gates, numbers, table};
 use crate::stop::Stop;
-use cb_lex::{Token, one_token_list};
-use cb_model::{Circuit, Expr};
+use cb_model::{Circuit, Expr, RawClause};
 use cb_nets::one_valuation;
-use cb_syntax::{TokensError, tokens};
 use sqlite_items::Items;
 use std::alloc::{AllocError, Global};
 
-/// A text in the first form: the flattened circuit of its module, the names of the inputs in port order, and the
+/// Facts in the first form: the flattened circuit of its module, the names of the inputs in port order, and the
 /// expressions of its specification, whose variables are the ports by number.
 #[derive(Drop)]
 pub struct First<'s> {
@@ -47,15 +46,6 @@ fn circuit(alloc: Global, fact: &ModuleFact<'_>) -> Result<Circuit, Stop>
     })
 }
 
-/// Whether no byte is a tab, a carriage return or the beginning of a comment.
-fn is_spaced(source: &[u8]) -> bool
-    ensures { result ≡ list_all is_spare source.now }
-{
-    source
-        .iter()
-        .all(|x| *x != b'\t' && *x != b'\r' && *x != b'%')
-}
-
 /// Whether the two facts have the name, as many ports as inputs and as many pairs as outputs.
 fn is_match(fact: &ModuleFact<'_>, spec: &SpecFact<'_>, name: &[u8]) -> bool
     ensures { IsTrue result ↔ Matches name.now (module_of fact.now) (spec_of spec.now) }
@@ -72,12 +62,16 @@ fn is_match(fact: &ModuleFact<'_>, spec: &SpecFact<'_>, name: &[u8]) -> bool
     spec.pairs.len() == fact.outputs.len()
 }
 
-/// The circuit, the names and the expressions of a text, by its tokens.
-fn from_tokens<'s>(alloc: Global, tokens: &[Token<'s>], name: &[u8]) -> Result<First<'s>, Stop>
-    requires { length tokens.now < 2 ^ 32 }
-    ensures { MatchResult result (IsFirstTokens tokens.now name.now) (λ e. Refuses e (IsNotFirstTokens tokens.now name.now)) }
+/// The circuit, the names and the expressions of the facts among clauses.
+fn from_clauses<'s>(
+    alloc: Global,
+    clauses: &[RawClause<'s>],
+    name: &[u8],
+) -> Result<First<'s>, Stop>
+    requires { AreClauses 4194304 (map clause_form clauses.now) }
+    ensures { MatchResult result (IsFirstSound (facts_of (map clause_form clauses.now)) name.now) (λ e. Refuses e (IsNotFirstForm (facts_of (map clause_form clauses.now)) name.now)) }
 {
-    let (fact, spec) = facts(alloc, tokens)?;
+    let (fact, spec) = facts(alloc, clauses)?;
     if !is_match(&fact, &spec, name) {
         return Err(Stop::Other);
     }
@@ -92,15 +86,15 @@ fn from_tokens<'s>(alloc: Global, tokens: &[Token<'s>], name: &[u8]) -> Result<F
     })
 }
 
-/// The flattened circuit and the specification of a text in the first form for the name of its module; `None` where
-/// the text isn't in that form. The text has at most 4,194,304 bytes.
+/// The flattened circuit and the specification of a file whose facts of circuits are in the first form for the name of
+/// its module; `None` where they aren't. Other clauses may stand beside the facts.
 pub fn first_form<'s>(
     alloc: Global,
-    source: &'s [u8],
+    clauses: &[RawClause<'s>],
     name: &[u8],
 ) -> Result<Option<First<'s>>, AllocError>
-    requires { length source.now ≤ 4194304 }
-    ensures form { IfOk result (λ o. MatchOption o (IsNotFirstForm source.now name.now) (IsFirstForm source.now name.now)) }
+    requires { AreClauses 4194304 (map clause_form clauses.now) }
+    ensures form { IfOk result (λ o. MatchOption o (IsNotFirstForm (facts_of (map clause_form clauses.now)) name.now) (IsFirstForm (facts_of (map clause_form clauses.now)) name.now)) }
 
     // The circuit is one that a comparison takes, and its inputs determine the bits of all nets.
     ensures sound { IfOk result (λ o. IfSome o (λ f. IsSound f.circuit)) }
@@ -111,17 +105,8 @@ pub fn first_form<'s>(
     ensures wanted { IfOk result (λ o. IfSome o (λ f. length f.spec ≡ length f.circuit.outputs)) }
     ensures scope { IfOk result (λ o. IfSome o (λ f. all_of (map (in_scope 0 f.circuit.inputs) f.spec) ≡ true)) }
 {
-    one_token_list();
     one_valuation();
-    let tokens = match tokens(alloc, source) {
-        Ok(tokens) => tokens,
-        Err(TokensError::Memory) => return Err(AllocError),
-        Err(TokensError::Lex(_)) => return Ok(None),
-    };
-    if !is_spaced(source) {
-        return Ok(None);
-    }
-    match from_tokens(alloc, tokens.as_slice(), name) {
+    match from_clauses(alloc, clauses, name) {
         Ok(first) => Ok(Some(first)),
         Err(Stop::Other) => Ok(None),
         Err(Stop::Memory) => Err(AllocError),

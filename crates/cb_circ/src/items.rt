@@ -1,10 +1,13 @@
 //! The items of the lists of the first form.
-ghost use Rattle.std.specs.Prelude.{◌≡◌, ◌+◌, ◌<◌, ◌≤◌, List, ℕ, [], ◌∷◌, ◌↔◌, IsTrue, length, drop, get_or, MatchOption, MatchBool, codes};
-ghost use Rattle.cb_circ.specs.FirstForm.{Word, Net, instance_words, pair_words};
-ghost use Rattle.cb_circ.specs.Shapes.{IsPair, pair_kinds};
-ghost use Rattle.cb_circ.specs.Written.{words, texts, HasShape, LacksShape, TookItem, NoItem};
+ghost use Rattle.std.specs.Prelude.{◌≡◌, Option, map};
+ghost use Rattle.std.specs.Option.{option_map};
+ghost use Rattle.cb_model.specs.Forms.{form_of, forms_of};
+ghost use Rattle.cb_model.specs.Grammar.{Form};
+ghost use Rattle.cb_circ.specs.Reader.{two_nets_in, inputs_in, output_in};
 
-use cb_lex::{Kind, Token};
+use crate::terms::{chain, elements, net, one, two};
+use cb_directives::named;
+use cb_model::RawTerm;
 
 /// A gate with two inputs and one output, by the names in its instance.
 #[derive(Clone, Copy)]
@@ -31,160 +34,107 @@ pub(crate) struct Pair<'s> {
     pub right: &'s [u8],
 }
 
-/// The kinds of an instance's tokens.
-const INSTANCE: [Kind; 12] = [
-    Kind::Atom,
-    Kind::LeftParen,
-    Kind::LeftBracket,
-    Kind::Variable,
-    Kind::Comma,
-    Kind::Variable,
-    Kind::RightBracket,
-    Kind::Comma,
-    Kind::LeftBracket,
-    Kind::Variable,
-    Kind::RightBracket,
-    Kind::RightParen,
-];
-
-/// Whether two kinds are the same.
-fn same(kind: Kind, other: Kind) -> bool
-    ensures { IsTrue result ↔ (kind ≡ other) }
+/// The names of two nets, where the terms are two.
+fn two_nets<'s>(terms: &[RawTerm<'s>]) -> Option<(&'s [u8], &'s [u8])>
+    ensures { option_map (λ p. (p.0.now, p.1.now)) result ≡ two_nets_in (forms_of (map form_of terms.now)) }
 {
-    kind == other
+    let (left, right) = two(terms)?;
+    let left = net(left)?;
+    let right = net(right)?;
+    Some((left, right))
 }
 
-/// Whether tokens of these kinds stand from `at` on.
-pub(crate) fn starts(tokens: &[Token<'_>], at: usize, kinds: &[Kind]) -> bool
-    requires { at ≤ length tokens.now }
-    ensures { MatchBool result (HasShape tokens.now at kinds.now) (LacksShape tokens.now at kinds.now) }
+/// The input pins of an instance, where they are two.
+fn inputs<'s>(term: &RawTerm<'s>) -> Option<(&'s [u8], &'s [u8])>
+    ensures { option_map (λ p. (p.0.now, p.1.now)) result ≡ inputs_in (form_of term.now) }
 {
-    for (i, kind) in kinds.iter().enumerate() {
-        match sqlite_items::at(tokens, at + i) {
-            Some(token) => {
-                if !same(token.kind, *kind) {
-                    return false;
-                }
-            }
-            None => return false,
-        }
-    }
-    true
+    let pins = elements(term)?;
+    two_nets(pins)
 }
 
-/// The text of a token.
-pub(crate) fn text<'s>(tokens: &[Token<'s>], at: usize) -> &'s [u8]
-    requires { at < length tokens.now }
-    ensures { result.now ≡ get_or (texts tokens.now) at [] }
+/// The output pin of an instance, where it is one.
+fn output<'s>(term: &RawTerm<'s>) -> Option<&'s [u8]>
+    ensures { option_map (λ x. x.now) result ≡ output_in (form_of term.now) }
 {
-    tokens[at].text
+    let pins = elements(term)?;
+    let pin = one(pins)?;
+    net(pin)
 }
 
 /// What may stand as an item of a list.
 pub(crate) trait Item<'s>: Copy {
-    /// The words of the item.
-    ghost words: { Self → List Word };
+    /// What an item is.
+    ghost Value: { Type 0 };
 
-    /// Words of such an item.
-    ghost IsItem: { List Word → Type 0 };
+    /// The item without the places of its names in memory.
+    ghost view: { Self → Value };
 
-    /// The number of its tokens.
-    ghost width: { ℕ };
+    /// The item that a form is.
+    ghost read_in: { Form → Option Value };
 
-    ghost is_item: { (x : Self) → IsItem (words x) };
-
-    ghost as_wide: { (ws : List Word) → IsItem ws → length ws ≡ width };
-
-    /// The item that begins at a token, and the place behind it.
-    fn read(tokens: &[Token<'s>], at: usize) -> Option<(Self, usize)>
-        requires { at ≤ length tokens.now }
-        ensures { MatchOption result (NoItem tokens.now at IsItem) (λ r. TookItem tokens.now at (words r.0) r.1) };
+    /// The item that a term is, if it is one.
+    fn read(term: &RawTerm<'s>) -> Option<Self>
+        ensures { option_map view result ≡ read_in (form_of term.now) };
 }
 
 impl<'s> Item<'s> for &'s [u8] {
-    ghost use Rattle.cb_circ.specs.Shapes.{net_words, IsNet, IsNet-net_words, length-IsNet};
+    ghost use Rattle.cb_model.specs.Text.{Text};
+    ghost use Rattle.cb_circ.specs.Reader.{net_in};
 
-    ghost words = { λ x. net_words x.now };
+    ghost Value = { Text };
 
-    ghost IsItem = { IsNet };
+    ghost view = { λ x. x.now };
 
-    ghost width = { 1 };
+    ghost read_in = { net_in };
 
-    ghost is_item = { λ x. IsNet-net_words x.now };
-
-    ghost as_wide = { length-IsNet };
-
-    fn read(tokens: &[Token<'s>], at: usize) -> Option<(&'s [u8], usize)> {
-        if !starts(tokens, at, &[Kind::Variable]) {
-            return None;
-        }
-        Some((text(tokens, at), at + 1))
+    fn read(term: &RawTerm<'s>) -> Option<&'s [u8]> {
+        net(term)
     }
 }
 
 impl<'s> Item<'s> for PairGate<'s> {
-    ghost use Rattle.cb_circ.specs.Shapes.{instance_of, IsInstance, IsInstance-instance_words, length-IsInstance};
+    ghost use Rattle.cb_model.specs.Circuits.{Instance};
+    ghost use Rattle.cb_circ.specs.Shapes.{instance_of};
+    ghost use Rattle.cb_circ.specs.Reader.{instance_in};
 
-    ghost words = { λ g. instance_words (instance_of g) };
+    ghost Value = { Instance };
 
-    ghost IsItem = { IsInstance };
+    ghost view = { instance_of };
 
-    ghost width = { 12 };
+    ghost read_in = { instance_in };
 
-    ghost is_item = { λ g. IsInstance-instance_words g };
-
-    ghost as_wide = { length-IsInstance };
-
-    fn read(tokens: &[Token<'s>], at: usize) -> Option<(PairGate<'s>, usize)> {
-        if !starts(tokens, at, &INSTANCE) {
-            return None;
-        }
-        let gate = PairGate {
-            part: text(tokens, at),
-            left: text(tokens, at + 3),
-            right: text(tokens, at + 5),
-            out: text(tokens, at + 9),
-        };
-        Some((gate, at + 12))
-    }
-}
-
-/// The operator between two ports that begin at a token.
-fn operator_at(tokens: &[Token<'_>], at: usize) -> Option<Operator>
-    requires { at ≤ length tokens.now }
-    ensures { MatchOption result (NoItem tokens.now at IsPair) (λ o. HasShape tokens.now at (pair_kinds o)) }
-{
-    if starts(tokens, at, &[Kind::Variable, Kind::Star, Kind::Variable]) {
-        Some(Operator::And)
-    } else if starts(tokens, at, &[Kind::Variable, Kind::Hash, Kind::Variable]) {
-        Some(Operator::Xor)
-    } else if starts(tokens, at, &[Kind::Variable, Kind::Plus, Kind::Variable]) {
-        Some(Operator::Or)
-    } else {
-        None
+    fn read(term: &RawTerm<'s>) -> Option<PairGate<'s>> {
+        let (part, args) = named(term)?;
+        let (ins, outs) = two(args)?;
+        let (left, right) = inputs(ins)?;
+        let out = output(outs)?;
+        Some(PairGate {
+            part,
+            left,
+            right,
+            out,
+        })
     }
 }
 
 impl<'s> Item<'s> for Pair<'s> {
-    ghost use Rattle.cb_circ.specs.Shapes.{pair_of, IsPair-pair_words, length-IsPair};
+    ghost use Rattle.cb_circ.specs.FirstForm.{PortPair};
+    ghost use Rattle.cb_circ.specs.Shapes.{pair_of};
+    ghost use Rattle.cb_circ.specs.Reader.{pair_in};
 
-    ghost words = { λ p. pair_words (pair_of p) };
+    ghost Value = { PortPair };
 
-    ghost IsItem = { IsPair };
+    ghost view = { pair_of };
 
-    ghost width = { 3 };
+    ghost read_in = { pair_in };
 
-    ghost is_item = { λ p. IsPair-pair_words p };
-
-    ghost as_wide = { length-IsPair };
-
-    fn read(tokens: &[Token<'s>], at: usize) -> Option<(Pair<'s>, usize)> {
-        let operator = operator_at(tokens, at)?;
-        let pair = Pair {
+    fn read(term: &RawTerm<'s>) -> Option<Pair<'s>> {
+        let (operator, operands) = chain(term)?;
+        let (left, right) = two_nets(operands)?;
+        Some(Pair {
             operator,
-            left: text(tokens, at),
-            right: text(tokens, at + 2),
-        };
-        Some((pair, at + 3))
+            left,
+            right,
+        })
     }
 }

@@ -1,4 +1,4 @@
-//! Circuits read from text.
+//! Circuits read from the facts of a file.
 #![tactic(auto)]
 
 mod facts;
@@ -8,7 +8,9 @@ mod lists;
 mod nets;
 mod numbering;
 mod stop;
+mod terms;
 
+pub use facts::is_fact;
 pub use first::{First, first_form};
 
 #[cfg(test)]

@@ -1,55 +1,42 @@
-//! Lists of items, with commas between them.
-ghost use Rattle.std.specs.Prelude.{◌≡◌, ◌+◌, ◌≤◌, ◌∷◌, length, map, MatchResult};
-ghost use Rattle.cb_model.specs.declared.Kind.TheVariants as kind;
-ghost use Rattle.cb_circ.specs.Written.{TookList, NoList, Refuses, after_kinds};
+//! Lists of items.
+ghost use Rattle.std.specs.Prelude.{◌≡◌, Some, None, map, MatchResult};
+ghost use Rattle.cb_model.specs.Forms.{form_of, forms_of};
+ghost use Rattle.cb_circ.specs.Stops.{Refuses};
+ghost use Rattle.cb_circ.specs.Reader.{all_in, list_in};
 
-use crate::items::{Item, starts};
-use crate::stop::{Close, Stop, push};
-use cb_lex::{Kind, Token};
+use crate::items::Item;
+use crate::stop::{Stop, push};
+use crate::terms::elements;
+use cb_model::RawTerm;
 use sqlite_items::Items;
 use std::alloc::Global;
 
-const NEXT: [Kind; 3] = [Kind::RightBracket, Kind::Comma, Kind::LeftBracket];
-
-const LAST: [Kind; 3] = [Kind::RightBracket, Kind::RightParen, Kind::Dot];
-
-impl Close {
-    /// The kinds of the tokens from the closing bracket on.
-    fn kinds(self) -> [Kind; 3]
-        ensures { result ≡ kind.RightBracket ∷ after_kinds self }
-    {
-        match self {
-            Close::Next => NEXT,
-            Close::Last => LAST,
-        }
-    }
-}
-
-/// The items of a list that begin at a token, one at least, and the place behind what closes it.
-pub(crate) fn list<'s, T: Item<'s> + Drop>(
-    alloc: Global,
-    tokens: &[Token<'s>],
-    at: usize,
-    close: Close,
-) -> Result<(Items<T>, usize), Stop>
-    requires { at ≤ length tokens.now }
-    ensures { MatchResult result (λ r. TookList tokens.now at close (map T.words r.0) r.1) (λ e. Refuses e (NoList tokens.now at close T.IsItem)) }
+/// The items that the terms are, where each is one.
+fn items<'s, T: Item<'s> + Drop>(alloc: Global, terms: &[RawTerm<'s>]) -> Result<Items<T>, Stop>
+    ensures { MatchResult result (λ r. all_in T.read_in (forms_of (map form_of terms.now)) ≡ Some (map T.view r)) (λ e. Refuses e (all_in T.read_in (forms_of (map form_of terms.now)) ≡ None)) }
 {
-    let kinds = close.kinds();
     let mut items = Items::new(alloc);
-    let mut next = at;
-    'items: loop {
-        let Some(read) = T::read(tokens, next) else {
+    for term in terms {
+        let Some(item) = T::read(term) else {
             return Err(Stop::Other);
         };
-        let (item, behind) = read;
         push(&mut items, item)?;
-        if starts(tokens, behind, &kinds) {
-            return Ok((items, behind + 3));
-        }
-        if !starts(tokens, behind, &[Kind::Comma]) {
-            return Err(Stop::Other);
-        }
-        next = behind + 1;
     }
+    Ok(items)
+}
+
+/// The items of a list without a tail, one at least.
+pub(crate) fn list<'s, T: Item<'s> + Drop>(
+    alloc: Global,
+    term: &RawTerm<'s>,
+) -> Result<Items<T>, Stop>
+    ensures { MatchResult result (λ r. list_in T.read_in (form_of term.now) ≡ Some (map T.view r)) (λ e. Refuses e (list_in T.read_in (form_of term.now) ≡ None)) }
+{
+    let Some(terms) = elements(term) else {
+        return Err(Stop::Other);
+    };
+    if terms.is_empty() {
+        return Err(Stop::Other);
+    }
+    items(alloc, terms)
 }

@@ -1,10 +1,10 @@
 //! The names of nets by number.
 ghost use Rattle.std.specs.Prelude.{◌≡◌, [], ◌∷◌, ◌<◌, ◌≤◌, ◌^◌, length, Contains, MatchResult};
-ghost use Rattle.cb_circ.specs.Written.{Refuses};
+ghost use Rattle.cb_circ.specs.Stops.{Refuses};
 ghost use Rattle.cb_circ.specs.Numbers.{AddsNet, IsNew, number};
 
 use crate::stop::Stop;
-use indexmap::IndexSet;
+use cb_names::Names;
 use std::alloc::Global;
 use std::marker::Model;
 
@@ -12,18 +12,18 @@ use std::marker::Model;
 /// of their names.
 #[derive(Drop)]
 pub(crate) struct Nets<'s> {
-    names: IndexSet<&'s [u8]>,
+    names: Names<'s>,
 }
 
 impl<'s> Model for Nets<'s> {
-    ghost use Rattle.std.specs.Prelude.{List, ℕ, map};
+    ghost use Rattle.std.specs.Prelude.{List, ℕ};
     ghost use Rattle.std.specs.Coded.{coded_list, coded_ℕ};
 
     ghost Value = { List (List ℕ) };
 
     ghost coded = { coded_list (coded_list coded_ℕ) };
 
-    ghost view = { λ n. map (λ x. x.now) n.names.keys };
+    ghost view = { λ n. n.names };
 }
 
 impl<'s> Nets<'s> {
@@ -32,7 +32,7 @@ impl<'s> Nets<'s> {
         ensures { result ≡ [] }
     {
         Nets {
-            names: IndexSet::new(alloc),
+            names: Names::new(alloc),
         }
     }
 
@@ -41,7 +41,7 @@ impl<'s> Nets<'s> {
         requires { length self.now ≤ 2 ^ 32 }
         ensures { MatchResult result (λ n. Contains self.now name.now × (n ≡ number self.now name.now)) (λ e. Refuses e (Contains self.now name.now → ⊥)) }
     {
-        let Some(index) = self.names.get_index_of(name) else {
+        let Some(index) = self.names.number(name) else {
             return Err(Stop::Other);
         };
         Ok(index as u32)
@@ -55,13 +55,13 @@ impl<'s> Nets<'s> {
         if name == b"_".as_slice() {
             return Err(Stop::Other);
         }
-        let number = self.names.len() as u32;
-        let Ok(added) = self.names.insert(name) else {
-            return Err(Stop::Memory);
-        };
-        if !added {
+        if self.names.has(name) {
             return Err(Stop::Other);
         }
+        let number = self.names.len() as u32;
+        let Ok(()) = self.names.add(name) else {
+            return Err(Stop::Memory);
+        };
         Ok(number)
     }
 }

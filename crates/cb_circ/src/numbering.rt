@@ -2,7 +2,7 @@
 ghost use Rattle.std.specs.Prelude.{◌≡◌, ◌+◌, ◌≤◌, ◌<◌, ◌^◌, List, ℕ, length, map, MatchResult};
 ghost use Rattle.cb_model.specs.declared.Expr.TheVariants as expr;
 ghost use Rattle.cb_circ.specs.FirstForm.{op_expr};
-ghost use Rattle.cb_circ.specs.Written.{Refuses};
+ghost use Rattle.cb_circ.specs.Stops.{Refuses};
 ghost use Rattle.cb_circ.specs.Shapes.{instance_of, pair_of, op_of};
 ghost use Rattle.cb_circ.specs.Numbers.{part_kind, IsPart, Fits, AllFit, NumbersGate, NumbersGates, NumbersNets, AreNew, NumbersPairs, NoPairs};
 

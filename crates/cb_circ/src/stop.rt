@@ -1,24 +1,15 @@
-//! Why reading stops, and where a list ends.
+//! Why reading stops.
 ghost use Rattle.std.specs.Prelude.{◌≡◌, [], ◌∷◌, ◌++◌, MatchResult};
 
 use sqlite_items::Items;
 
-/// Why no circuit came of a text.
+/// Why no circuit came of clauses.
 #[derive(Clone, Copy, Debug, Drop)]
 pub(crate) enum Stop {
-    /// The text is not in the first form.
+    /// The facts are not in the first form.
     Other,
     /// There was no memory left.
     Memory,
-}
-
-/// What stands behind the items of a list.
-#[derive(Clone, Copy)]
-pub(crate) enum Close {
-    /// Another list of the fact: `],[`.
-    Next,
-    /// The end of the fact: `]).`.
-    Last,
 }
 
 /// Puts an item at the end.

@@ -1,7 +1,8 @@
-//! Texts in the first form, and texts that miss it by one thing.
+//! Texts whose facts are in the first form, and texts whose facts miss it by one thing.
 
 use super::*;
 use cb_model::{Expr, GateKind};
+use cb_syntax::read_clauses;
 use std::alloc::Global;
 use std::process::Abort;
 use std::test::Fail;
@@ -17,10 +18,23 @@ fn ports(rt: &impl Abort, chain: &[Expr]) -> (u32, u32) {
     }
 }
 
+/// The first form for a name of a text's facts.
+fn first<'s>(
+    rt: &impl Abort,
+    alloc: Global,
+    text: &'s [u8],
+    name: &[u8],
+) -> Result<Option<First<'s>>, Fail> {
+    assert!(rt; text.len() < 1000);
+    let clauses = read_clauses(alloc, text)?;
+    Ok(first_form(alloc, clauses.as_slice(), name)?)
+}
+
 #[test]
-fn numbers_the_nets_of_the_half_adder(rt: HostRuntime) {
-    let Ok(Some(first)) = first_form(rt.alloc(), HALF_ADDER.as_bytes(), b"half_adder") else {
-        panic!(&rt; "the text is in the first form");
+fn numbers_the_nets_of_the_half_adder(rt: HostRuntime) -> Result<(), Fail> {
+    let text = HALF_ADDER.as_bytes();
+    let Some(first) = first(&rt, rt.alloc(), text, b"half_adder")? else {
+        panic!(&rt; "the facts are in the first form");
     };
     assert_eq!(&rt; first.circuit.inputs, 2);
     assert_eq!(&rt; first.circuit.nets, 4);
@@ -44,14 +58,15 @@ fn numbers_the_nets_of_the_half_adder(rt: HostRuntime) {
     };
     assert_eq!(&rt; ports(&rt, left.as_slice()), (0, 1));
     assert_eq!(&rt; ports(&rt, right.as_slice()), (0, 1));
+    Ok(())
 }
 
 #[test]
-fn numbers_a_chain_of_gates(rt: HostRuntime) {
+fn numbers_a_chain_of_gates(rt: HostRuntime) -> Result<(), Fail> {
     let text =
         b"module(m,[A,B,C],[Y,A,Y],[or([C,A],[T]),and([T,B],[Y])]).spec(m,[P,Q,R],[Q+R,P*P,R#P]).";
-    let Ok(Some(first)) = first_form(rt.alloc(), text, b"m") else {
-        panic!(&rt; "the text is in the first form");
+    let Some(first) = first(&rt, rt.alloc(), text, b"m")? else {
+        panic!(&rt; "the facts are in the first form");
     };
     assert_eq!(&rt; first.circuit.nets, 5);
     assert!(&rt; first.circuit.outputs.as_slice() == [4, 0, 4].as_slice());
@@ -69,51 +84,41 @@ fn numbers_a_chain_of_gates(rt: HostRuntime) {
     assert_eq!(&rt; ports(&rt, one.as_slice()), (1, 2));
     assert_eq!(&rt; ports(&rt, two.as_slice()), (0, 0));
     assert_eq!(&rt; ports(&rt, three.as_slice()), (2, 0));
+    Ok(())
 }
 
-/// Whether a text is in the first form for `m`.
-fn is_first(rt: &impl Abort, alloc: Global, text: &[u8]) -> bool {
-    assert!(rt; text.len() < 1000);
-    match first_form(alloc, text, b"m") {
-        Ok(first) => first.is_some(),
-        Err(_) => panic!(rt; "memory is wanting"),
+#[test]
+fn accepts_what_leaves_no_trace_in_clauses(rt: HostRuntime) -> Result<(), Fail> {
+    let texts: [&[u8]; 5] = [
+        b"module(m,[A],[Y],[and([A,A],[Y])]).spec(m,[A],[A*A]).",
+        b" module ( m , [ A ] ,\n[ Y ] , [ and ( [ A , A ] , [ Y ] ) ] ) .\n\nspec(m,[B],[B*B]).\n",
+        b"% both\r\nmodule(m,[A],[Y],\t[and([A,A],[Y])]). % and\nspec(m,[A],[A*A]).",
+        b"'module'('m',[(A)],[Y],['and'([A,A],[Y])]).spec(m,[A],[((A)*A)]).",
+        b":- constants a.\nmodule(m,[A],[Y],[and([A,A],[Y])]).p(0).spec(m,[A],[A*A]).module(m).",
+    ];
+    for text in texts.as_slice() {
+        assert!(&rt;
+            first(&rt, rt.alloc(), *text, b"m")?.is_some(),
+            "{}",
+            text.len()
+        );
     }
+    Ok(())
 }
 
 #[test]
-fn accepts_spaces_and_ends_of_lines(rt: HostRuntime) {
-    assert!(&rt;
-        is_first(
-            &rt,
-            rt.alloc(),
-            b"module(m,[A],[Y],[and([A,A],[Y])]).spec(m,[A],[A*A])."
-        )
-    );
-    assert!(&rt;
-        is_first(
-            &rt,
-            rt.alloc(),
-            b" module ( m , [ A ] ,\n[ Y ] , [ and ( [ A , A ] , [ Y ] ) ] ) .\n\nspec(m,[B],[B*B]).\n"
-        )
-    );
-}
-
-#[test]
-fn refuses_what_misses_the_form_by_one_thing(rt: HostRuntime) {
-    let texts: [&[u8]; 32] = [
-        // The text, its layout and its facts.
+fn refuses_what_misses_the_form_by_one_thing(rt: HostRuntime) -> Result<(), Fail> {
+    let texts: [&[u8]; 29] = [
+        // The facts.
         b"",
         b"module(m,[A],[Y],[and([A,A],[Y])]).",
         b"spec(m,[A],[A*A]).module(m,[A],[Y],[and([A,A],[Y])]).",
-        b"module(m,[A],[Y],[and([A,A],[Y])]).spec(m,[A],[A*A]).p(0).",
-        b"module(m,[A],[Y],[and([A,A],[Y])]).spec(m,[A],[A*A])",
-        b"module(m,[A],[Y],[and([A,A],[Y])]).\tspec(m,[A],[A*A]).",
-        b"module(m,[A],[Y],[and([A,A],[Y])]).\rspec(m,[A],[A*A]).",
-        b"module(m,[A],[Y],[and([A,A],[Y])]).spec(m,[A],[A*A]).%",
-        b"module(m,[A],[Y],[and([A,A],[Y])]).spec(m,[A],[A*A]).&",
         b"module(n,[A],[Y],[and([A,A],[Y])]).spec(m,[A],[A*A]).",
         b"module(m,[A],[Y],[and([A,A],[Y])]).spec(n,[A],[A*A]).",
-        b"module('m',[A],[Y],[and([A,A],[Y])]).spec(m,[A],[A*A]).",
+        b"module(m,[A],[Y],[and([A,A],[Y])]).spec(m,[A],[A*A]).spec(n,[A],[A*A]).",
+        b"module(m,[A],[Y],[and([A,A],[Y])]) :- true.spec(m,[A],[A*A]).",
+        b"module(M,[A],[Y],[and([A,A],[Y])]).spec(m,[A],[A*A]).",
+        b"module(m,[A],[Y|Z],[and([A,A],[Y])]).spec(m,[A],[A*A]).",
         // The ports and pins.
         b"module(m,[],[Y],[and([A,A],[Y])]).spec(m,[],[A*A]).",
         b"module(m,[A],[],[and([A,A],[Y])]).spec(m,[A],[]).",
@@ -139,6 +144,11 @@ fn refuses_what_misses_the_form_by_one_thing(rt: HostRuntime) {
         b"module(m,[A],[Y],[and([A,A],[Y])]).spec(m,[_],[_*_]).",
     ];
     for text in texts.as_slice() {
-        assert!(&rt; !is_first(&rt, rt.alloc(), *text), "{}", text.len());
+        assert!(&rt;
+            first(&rt, rt.alloc(), *text, b"m")?.is_none(),
+            "{}",
+            text.len()
+        );
     }
+    Ok(())
 }

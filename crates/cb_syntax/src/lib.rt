@@ -8,7 +8,6 @@ mod texts;
 mod token_list;
 
 pub use texts::{ReadError, read_clauses, read_queries};
-pub use token_list::{TokensError, tokens};
 
 #[cfg(test)]
 mod tests;

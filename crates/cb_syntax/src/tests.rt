@@ -1,6 +1,7 @@
 //! Texts that were read by hand.
 
 use super::*;
+use crate::token_list::{TokensError, tokens};
 use cb_lex::LexError;
 use std::alloc::Global;
 use std::test::Fail;

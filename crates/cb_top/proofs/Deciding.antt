@@ -1,16 +1,27 @@
--- What is decided of a file, from its form and the verdict of the comparison.
+-- What is decided of the clauses of a file, from their form and the verdict of the comparison.
 use Rattle.std.proofs.Common.{◌≡◌, ℕ, ◌+◌, ◌*◌, ◌-◌, ◌^◌, ◌<◌, ◌≤◌, map, sum, Bool, List, [], ◌∷◌, ◌++◌, codes, length, Option, Some, None, MatchOption, Bor, refl, sym, ap, subst, ◌∙◌, arith}
+use Rattle.std.proofs.Common.{true, false}
+use Rattle.std.specs.List.{list_all}
 use Rattle.cb_model.specs.declared.Expr.{Expr}
 use Rattle.cb_model.specs.declared.Circuit.{Circuit}
 use Rattle.cb_model.specs.declared.Outcome.{Outcome}
 use Rattle.cb_model.specs.declared.Outcome.TheVariants as outcome
 use Rattle.cb_model.specs.Text.{Text, name_text, lines_text}
 use Rattle.cb_model.specs.Circuits.{Module, flat, circuit_of, BySpec, Agrees, LeastDifference}
-use Rattle.cb_circ.specs.FirstForm.{PairSpec, FirstForm, pair_exprs}
+use Rattle.cb_model.specs.Grammar.{FormClause, Whole, Lexed, Syntax, Unfinished, Deep, IsReading, ReadsClause}
+use Rattle.cb_model.specs.declared.RawClause.{RawClause}
+use Rattle.cb_model.specs.Forms.{clause_form}
+use Rattle.cb_model.specs.Loading.{is_fact}
+use Rattle.cb_model.specs.Written.{AreClauses}
+use Rattle.cb_lex.specs.Faults.{fault_of}
+use Rattle.cb_syntax.specs.declared.texts.ReadError.{ReadError}
+use Rattle.cb_syntax.specs.declared.texts.ReadError.TheVariants as error
+use Rattle.cb_syntax.specs.Readings.{IsRefused}
+use Rattle.cb_circ.specs.FirstForm.{PairSpec, FirstForm, facts_of, pair_exprs}
 use Rattle.cb_model.specs.Commands.{Nodes, Max, Only}
-use Rattle.cb_model.specs.Refusals.{refusal_line, unbuilt}
+use Rattle.cb_model.specs.Refusals.{Refused, refusal_line, unbuilt}
 use Rattle.cb_model.specs.Verdicts.{differs_text, agrees, differs, stopped}
-use Rattle.cb_top.specs.Built.{not_first, compared, flat_room}
+use Rattle.cb_top.specs.Built.{FileRefused, unread, others, not_first, compared, refused, read, flat_room}
 use Rattle.cb_model.specs.Room.{room_v, circuit_pins, instance_pins, expr_size}
 use Rattle.cb_model.specs.Output.{BelowNodes}
 use Rattle.std.proofs.Math.Nat.{mul-le-mul_right}
@@ -21,20 +32,25 @@ use Rattle.cb_verify.specs.declared.Verdict.TheVariants as verdict
 use Rattle.cb_verify.specs.Verdict.{IsRight}
 use Rattle.cb_circ.specs.declared.first.First.{First}
 use Rattle.cb_circ.specs.First.{IsFirstForm, IsNotFirstForm}
-use Rattle.cb_top.specs.Answers.{Decides, VerdictSays, FitsPorts}
+use Rattle.cb_top.specs.Answers.{Decides, ClausesDecide, VerdictSays, FitsPorts}
+use Rattle.cb_top.specs.Refusals.{read_refused}
 
--- what was read of a file in the first form
-pub record WasRead (file name : Text) (circuit : Circuit) (ports : List Text) (exprs : List Expr) : Type 0 where
+-- what was read of clauses whose facts are in the first form
+pub record WasRead (cs : List FormClause) (name : Text) (circuit : Circuit) (ports : List Text) (exprs : List Expr) : Type 0 where
   pub m : Module
   pub s : PairSpec
-  pub form : FirstForm file name m s
+  pub form : FirstForm (facts_of cs) name m s
   pub circuit_is : circuit ≡ circuit_of (flat [] m)
   pub ports_are : ports ≡ m.inputs
   pub exprs_are : exprs ≡ pair_exprs s
 
-pub decides-unbuilt : (file name : Text) (nodes : Nodes) (text : Text) (o : Outcome) → length file ≤ 4194304 → ((m : Module) (s : PairSpec) → FirstForm file name m s → ⊥) →
-    text ≡ lines_text (refusal_line unbuilt ∷ []) → o ≡ outcome.Refused 99 → Decides file name nodes text o
-decides-unbuilt file name nodes text o short none t e = record { lines = refusal_line unbuilt ∷ []; says = not_first short none (refl, e); is = t }
+pub decides-others : (cs : List FormClause) (name : Text) (nodes : Nodes) (text : Text) (o : Outcome) → list_all is_fact cs ≡ false →
+    text ≡ lines_text (refusal_line unbuilt ∷ []) → o ≡ outcome.Refused 99 → ClausesDecide cs name nodes text o
+decides-others cs name nodes text o h t e = record { lines = refusal_line unbuilt ∷ []; says = others h (refl, e); is = t }
+
+pub decides-unbuilt : (cs : List FormClause) (name : Text) (nodes : Nodes) (text : Text) (o : Outcome) → IsNotFirstForm (facts_of cs) name →
+    text ≡ lines_text (refusal_line unbuilt ∷ []) → o ≡ outcome.Refused 99 → ClausesDecide cs name nodes text o
+decides-unbuilt cs name nodes text o none t e = record { lines = refusal_line unbuilt ∷ []; says = not_first none (refl, e); is = t }
 
 -- more pins make the bound no less
 room_v-more : (g h s m n : ℕ) → room_v g s m n ≤ room_v (g + h) s m n
@@ -47,26 +63,26 @@ below-room : (nodes : Nodes) (a b : ℕ) → (budget_of nodes ≡ 2 ^ 64 - 1 →
 below-room Max a b h l m = h refl
 below-room (Only n) a b h l m = omega arith
 
-module _ (file name : Text) (nodes : Nodes) (circuit : Circuit) (ports : List Text) (exprs : List Expr) (short : length file ≤ 4194304) (r : WasRead file name circuit ports exprs) where
-  pub decides-verified : (text : Text) → Agrees circuit (BySpec exprs) → text ≡ lines_text ((codes "verified " ++ name_text name) ∷ []) → Decides file name nodes text outcome.Done
+module _ (cs : List FormClause) (name : Text) (nodes : Nodes) (circuit : Circuit) (ports : List Text) (exprs : List Expr) (facts : list_all is_fact cs ≡ true) (r : WasRead cs name circuit ports exprs) where
+  pub decides-verified : (text : Text) → Agrees circuit (BySpec exprs) → text ≡ lines_text ((codes "verified " ++ name_text name) ∷ []) → ClausesDecide cs name nodes text outcome.Done
   decides-verified text h t =
       let a : Agrees (circuit_of (flat [] r.m)) (BySpec exprs) = subst (λ c. Agrees c (BySpec exprs)) r.circuit_is h in
       let b : Agrees (circuit_of (flat [] r.m)) (BySpec (pair_exprs r.s)) = subst (λ es. Agrees (circuit_of (flat [] r.m)) (BySpec es)) r.exprs_are a in
-      record { lines = (codes "verified " ++ name_text name) ∷ []; says = compared r.m r.s short r.form (agrees b refl); is = t }
+      record { lines = (codes "verified " ++ name_text name) ∷ []; says = compared r.m r.s facts r.form (agrees b refl); is = t }
 
   pub decides-differs : (text : Text) (input : List Bool) (at : ℕ) (got wanted : Bool) → LeastDifference circuit (BySpec exprs) input at got wanted →
-      text ≡ lines_text (differs_text (name_text name) ports input at got wanted ∷ []) → Decides file name nodes text outcome.Differs
+      text ≡ lines_text (differs_text (name_text name) ports input at got wanted ∷ []) → ClausesDecide cs name nodes text outcome.Differs
   decides-differs text input at got wanted h t =
       let a : LeastDifference (circuit_of (flat [] r.m)) (BySpec exprs) input at got wanted = subst (λ c. LeastDifference c (BySpec exprs) input at got wanted) r.circuit_is h in
       let b : LeastDifference (circuit_of (flat [] r.m)) (BySpec (pair_exprs r.s)) input at got wanted = subst (λ es. LeastDifference (circuit_of (flat [] r.m)) (BySpec es) input at got wanted) r.exprs_are a in
       record {
         lines = differs_text (name_text name) ports input at got wanted ∷ [];
-        says = compared r.m r.s short r.form (differs input at got wanted b (ap (λ ps. differs_text (name_text name) ps input at got wanted) r.ports_are));
+        says = compared r.m r.s facts r.form (differs input at got wanted b (ap (λ ps. differs_text (name_text name) ps input at got wanted) r.ports_are));
         is = t;
       }
 
   pub decides-stopped : (text : Text) (o : Outcome) → (budget_of nodes ≡ 2 ^ 64 - 1 → ⊥) →
-      budget_of nodes < room_v (circuit_pins circuit) (sum (map expr_size exprs)) (length circuit.outputs) circuit.inputs → text ≡ STOPPED_NODES.now → o ≡ outcome.Stopped → Decides file name nodes text o
+      budget_of nodes < room_v (circuit_pins circuit) (sum (map expr_size exprs)) (length circuit.outputs) circuit.inputs → text ≡ STOPPED_NODES.now → o ≡ outcome.Stopped → ClausesDecide cs name nodes text o
   decides-stopped text o h l t e =
       let c = circuit_of (flat [] r.m) in
       let bound : List Expr → ℕ = λ es. sum (map expr_size es) in
@@ -74,27 +90,58 @@ module _ (file name : Text) (nodes : Nodes) (circuit : Circuit) (ports : List Te
       let same : budget_of nodes < room_v (circuit_pins c) (bound (pair_exprs r.s)) (length c.outputs) c.inputs = subst (λ es. budget_of nodes < room_v (circuit_pins c) (bound es) (length c.outputs) c.inputs) r.exprs_are here in
       let below : BelowNodes nodes (flat_room r.m (pair_exprs r.s)) =
       below-room nodes _ _ h same (room_v-more (circuit_pins c) (instance_pins r.m) (bound (pair_exprs r.s)) (length c.outputs) c.inputs) in
-      subst (Decides file name nodes text) (sym e) (record { lines = codes "stopped: nodes" ∷ []; says = compared r.m r.s short r.form (stopped below refl); is = t })
+      subst (ClausesDecide cs name nodes text) (sym e) (record { lines = codes "stopped: nodes" ∷ []; says = compared r.m r.s facts r.form (stopped below refl); is = t })
 
   -- the input of a difference has a bit for each port
   input-ports : (input : List Bool) (at : ℕ) (got wanted : Bool) → LeastDifference circuit (BySpec exprs) input at got wanted → length ports ≡ length input
   input-ports input at got wanted h = ap length r.ports_are ∙ sym (h.width ∙ ap (λ c. c.inputs) r.circuit_is)
 
-  pub decides-verdict : (v : Verdict) (text : Text) (o : Outcome) → IsRight circuit (BySpec exprs) v → VerdictSays name ports v text o → Decides file name nodes text o
-  decides-verdict verdict.Verified text o h says = subst (Decides file name nodes text) (sym says.1) (decides-verified text h says.0)
+  pub decides-verdict : (v : Verdict) (text : Text) (o : Outcome) → IsRight circuit (BySpec exprs) v → VerdictSays name ports v text o → ClausesDecide cs name nodes text o
+  decides-verdict verdict.Verified text o h says = subst (ClausesDecide cs name nodes text) (sym says.1) (decides-verified text h says.0)
   decides-verdict (verdict.Differs input output got wanted) text o h says =
-      subst (Decides file name nodes text) (sym says.1) (decides-differs text input (output - 1) got wanted h.1 says.0)
+      subst (ClausesDecide cs name nodes text) (sym says.1) (decides-differs text input (output - 1) got wanted h.1 says.0)
 
   pub fits-ports : (v : Verdict) → IsRight circuit (BySpec exprs) v → FitsPorts (length ports) v
   fits-ports verdict.Verified h = tt
   fits-ports (verdict.Differs input output got wanted) h = (input-ports input (output - 1) got wanted h.1, h.0)
 
 -- what `first_form` answers, as what was read
-pub was-read : (file name : Text) (o : Option First) (first : First) (names : List (Bor Text)) (spec : List Expr) → o ≡ Some first → names ≡ first.names → spec ≡ first.spec →
-    MatchOption o (IsNotFirstForm file name) (IsFirstForm file name) → WasRead file name first.circuit (map (λ p. p.now) names) spec
-was-read file name o first names spec e ns es h =
-    let k : IsFirstForm file name first = subst (λ x. MatchOption x (IsNotFirstForm file name) (IsFirstForm file name)) e h in
+pub was-read : (cs : List FormClause) (name : Text) (o : Option First) (first : First) (names : List (Bor Text)) (spec : List Expr) → o ≡ Some first → names ≡ first.names → spec ≡ first.spec →
+    MatchOption o (IsNotFirstForm (facts_of cs) name) (IsFirstForm (facts_of cs) name) → WasRead cs name first.circuit (map (λ p. p.now) names) spec
+was-read cs name o first names spec e ns es h =
+    let k : IsFirstForm (facts_of cs) name first = subst (λ x. MatchOption x (IsNotFirstForm (facts_of cs) name) (IsFirstForm (facts_of cs) name)) e h in
     record { m = k.m; s = k.s; form = k.form; circuit_is = k.circuit; ports_are = ap (map (λ (p : Bor Text). p.now)) ns ∙ k.names; exprs_are = es ∙ k.spec }
 
-pub not-read : (file name : Text) (o : Option First) → o ≡ None → MatchOption o (IsNotFirstForm file name) (IsFirstForm file name) → IsNotFirstForm file name
-not-read file name o e h = subst (λ x. MatchOption x (IsNotFirstForm file name) (IsFirstForm file name)) e h
+pub not-read : (cs : List FormClause) (name : Text) (o : Option First) → o ≡ None → MatchOption o (IsNotFirstForm (facts_of cs) name) (IsFirstForm (facts_of cs) name) → IsNotFirstForm (facts_of cs) name
+not-read cs name o e h = subst (λ x. MatchOption x (IsNotFirstForm (facts_of cs) name) (IsFirstForm (facts_of cs) name)) e h
+
+-- ---- the text
+
+few_more : (n : ℕ) (cs : List FormClause) → n ≤ 4194304 → AreClauses n cs → AreClauses 4194304 cs
+few_more n cs h w =
+    let a = w.few in
+    let b = w.few_goals in
+    let c = w.few_terms in
+    record { written = w.written; few = omega arith; few_goals = omega arith; few_terms = omega arith }
+
+-- the clauses of a text that isn't too long are few enough
+pub clauses_few : (n : ℕ) (xs ys : List RawClause) → ys ≡ xs → n ≤ 4194304 → AreClauses n (map clause_form xs) → AreClauses 4194304 (map clause_form ys)
+clauses_few n xs ys e h w = subst (λ l. AreClauses 4194304 (map clause_form l)) (sym e) (few_more n (map clause_form xs) h w)
+
+-- what is decided of the clauses is decided of the text
+pub decides-read : (file name : Text) (nodes : Nodes) (text : Text) (o : Outcome) (xs ys : List RawClause) → length file ≤ 4194304 → ys ≡ xs → IsReading ReadsClause file (Whole (map clause_form xs)) →
+    ClausesDecide (map clause_form ys) name nodes text o → Decides file name nodes text o
+decides-read file name nodes text o xs ys short e reading d =
+    record { lines = d.lines; says = read (map clause_form ys) (record { short = short; reading = subst (λ l. IsReading ReadsClause file (Whole (map clause_form l))) (sym e) reading }) d.says; is = d.is }
+
+-- what was not read is refused
+unread-refused : (file : Text) (e : ReadError) (r : Refused) → length file ≤ 4194304 → IsRefused ReadsClause file e → Some r ≡ read_refused e → FileRefused file r
+unread-refused file (error.Lex f) r short h t = unread (Lexed (fault_of f)) short h (sym t)
+unread-refused file (error.Syntax n) r short h t = unread (Syntax n) short h (sym t)
+unread-refused file (error.Unfinished n) r short h t = unread (Unfinished n) short h (sym t)
+unread-refused file (error.Deep n) r short h t = unread (Deep n) short h (sym t)
+unread-refused file error.Memory r short h t = absurd (cc)
+
+pub decides-unread : (file name : Text) (nodes : Nodes) (text : Text) (o : Outcome) (e : ReadError) (r : Refused) → length file ≤ 4194304 → IsRefused ReadsClause file e → Some r ≡ read_refused e →
+    (text ≡ lines_text (refusal_line r ∷ [])) × (o ≡ outcome.Refused r.number) → Decides file name nodes text o
+decides-unread file name nodes text o e r short h t a = record { lines = refusal_line r ∷ []; says = refused r (unread-refused file e r short h t) (refl, a.1); is = a.0 }

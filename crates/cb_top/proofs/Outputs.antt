@@ -15,9 +15,11 @@ use Rattle.cb_model.specs.Commands.{Command, Check, Run, Verify, Same, Make, Nod
 use Rattle.cb_model.specs.Refusals.{Refused, Refuses, refusal_line, usage, unbuilt, file_too_long}
 use Rattle.cb_model.specs.Verdicts.{Compared, agrees, differs, stopped}
 use Rattle.cb_model.specs.Outside.{Rose, bytes_named}
-use Rattle.cb_top.specs.Built.{VerifySays, too_long, not_first, compared, CommandSays, Output, nothing_yet, begins, bytes_or, file_bytes, flat_room}
+use Rattle.cb_top.specs.Built.{FileRefused, long, unread, ClausesSay, others, not_first, compared, VerifySays, refused, read, CommandSays, Output, nothing_yet, begins, bytes_or, file_bytes, flat_room}
 use Rattle.cb_circ.specs.FirstForm.{pair_exprs}
-use Rattle.cb_model.specs.Output.{BelowNodes}
+use Rattle.cb_model.specs.Tokens.{Byte, Number, Quote}
+use Rattle.cb_model.specs.Grammar.{FormClause, Reading, Whole, Lexed, Syntax, Unfinished, Deep}
+use Rattle.cb_model.specs.Output.{BelowNodes, reading_refused}
 use Rattle.cb_model.specs.Top.{HasUsage, NamesNumber}
 use Rattle.cb_top.specs.Top.{Appends, Prints}
 use Rattle.cb_top.specs.declared.lines.TheConstants.{USAGE, FILE_TOO_LONG}
@@ -56,25 +58,48 @@ pub record VerifyEnds (nodes : Nodes) (o : Outcome) : Type 0 where
   pub other : NotUsage o
   pub stops : o ≡ outcome.Stopped → IsNumber nodes
 
-long-ends : (nodes : Nodes) (lines : List Text) (o : Outcome) → Refuses file_too_long lines o → VerifyEnds nodes o
-long-ends nodes lines o h =
-    let q = refuses-other file_too_long lines o (λ (p : 20 ≡ 19). omega arith) h in
-    record { ends = refuses-ends file_too_long lines o h; other = q.0; stops = λ p. absurd (q.1 p) }
+refused-ends : (nodes : Nodes) (r : Refused) (lines : List Text) (o : Outcome) → (r.number ≡ 19 → ⊥) → Refuses r lines o → VerifyEnds nodes o
+refused-ends nodes r lines o d h =
+    let q = refuses-other r lines o d h in
+    record { ends = refuses-ends r lines o h; other = q.0; stops = λ p. absurd (q.1 p) }
 
 unbuilt-ends : (nodes : Nodes) (lines : List Text) (o : Outcome) → Refuses unbuilt lines o → VerifyEnds nodes o
-unbuilt-ends nodes lines o h =
-    let q = refuses-other unbuilt lines o (λ (p : 99 ≡ 19). omega arith) h in
-    record { ends = refuses-ends unbuilt lines o h; other = q.0; stops = λ p. absurd (q.1 p) }
+unbuilt-ends nodes lines o h = refused-ends nodes unbuilt lines o (λ (p : 99 ≡ 19). omega arith) h
+
+-- the number of a refusal of a reading
+other_number : (r q : Refused) → Some q ≡ Some r → (q.number ≡ 19 → ⊥) → r.number ≡ 19 → ⊥
+other_number r q e d h = d (ap (λ (x : Option Refused). number_or x) e ∙ h)
+  where
+    number_or : Option Refused → ℕ
+    number_or None = 0
+    number_or (Some x) = x.number
+
+reading-number : {A : Type 0} (x : Reading A) (r : Refused) → reading_refused x ≡ Some r → r.number ≡ 19 → ⊥
+reading-number (Whole xs) r e = absurd (cc)
+reading-number (Lexed (Byte n)) r e = other_number r _ e (λ (p : 1 ≡ 19). omega arith)
+reading-number (Lexed (Number n)) r e = other_number r _ e (λ (p : 2 ≡ 19). omega arith)
+reading-number (Lexed (Quote n)) r e = other_number r _ e (λ (p : 3 ≡ 19). omega arith)
+reading-number (Syntax n) r e = other_number r _ e (λ (p : 4 ≡ 19). omega arith)
+reading-number (Unfinished n) r e = other_number r _ e (λ (p : 5 ≡ 19). omega arith)
+reading-number (Deep n) r e = other_number r _ e (λ (p : 6 ≡ 19). omega arith)
+
+file-number : (file : Text) (r : Refused) → FileRefused file r → r.number ≡ 19 → ⊥
+file-number file r (long h) = λ (p : 20 ≡ 19). omega arith
+file-number file r (unread x s h e) = reading-number x r e
 
 below-number : (nodes : Nodes) (n : ℕ) → BelowNodes nodes n → IsNumber nodes
 below-number Max n h = h
 below-number (Only k) n h = tt
 
-verify-ends : (file name : Text) (nodes : Nodes) (lines : List Text) (o : Outcome) → VerifySays file name nodes lines o → VerifyEnds nodes o
-verify-ends file name nodes lines o (too_long l h) = long-ends nodes lines o h
-verify-ends file name nodes lines o (not_first l n h) = unbuilt-ends nodes lines o h
-verify-ends file name nodes lines o (compared m s l f h) =
+clauses-ends : (cs : List FormClause) (name : Text) (nodes : Nodes) (lines : List Text) (o : Outcome) → ClausesSay cs name nodes lines o → VerifyEnds nodes o
+clauses-ends cs name nodes lines o (others a h) = unbuilt-ends nodes lines o h
+clauses-ends cs name nodes lines o (not_first n h) = unbuilt-ends nodes lines o h
+clauses-ends cs name nodes lines o (compared m s a f h) =
     let q = compared-ends _ _ _ _ _ _ lines o h in record { ends = q.0; other = q.1; stops = λ p. below-number nodes (flat_room m (pair_exprs s)) (q.2 p) }
+
+verify-ends : (file name : Text) (nodes : Nodes) (lines : List Text) (o : Outcome) → VerifySays file name nodes lines o → VerifyEnds nodes o
+verify-ends file name nodes lines o (refused r t h) = refused-ends nodes r lines o (file-number file r t) h
+verify-ends file name nodes lines o (read cs i h) = clauses-ends cs name nodes lines o h
 
 -- what an output says of its outcome
 pub record HasOutcome (c : Option Command) (o : Outcome) : Type 0 where
@@ -134,10 +159,10 @@ verify-answers files words file name nodes text o e h = record {
 
 long-answers : (files : Option (List (Text × Text))) (file name bytes : Text) (nodes : Nodes) (text : Text) (o : Outcome) → ((list : List (Text × Text)) → files ≡ Some list → bytes ≡ bytes_named list file) →
     4194304 < length bytes → text ≡ FILE_TOO_LONG.now → o ≡ outcome.Refused 20 → VerifyAnswers files file name nodes text o
-long-answers files file name bytes nodes text o told long t e = record {
+long-answers files file name bytes nodes text o told h t e = record {
   bytes = bytes;
   bytes_told = told;
-  decides = record { lines = refusal_line file_too_long ∷ []; says = too_long long (refl, e); is = t };
+  decides = record { lines = refusal_line file_too_long ∷ []; says = refused file_too_long (long h) (refl, e); is = t };
 }
 
 -- a file that was longer than its limit

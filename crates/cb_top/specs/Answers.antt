@@ -7,9 +7,10 @@ use Rattle.cb_model.specs.Text.{Text, name_text, lines_text}
 use Rattle.cb_model.specs.Verdicts.{differs_text}
 use Rattle.cb_verify.specs.declared.Verdict.{Verdict}
 use Rattle.cb_verify.specs.declared.Verdict.TheVariants as verdict
+use Rattle.cb_model.specs.Grammar.{FormClause}
 use Rattle.cb_model.specs.Commands.{Nodes}
 use Rattle.cb_model.specs.Outside.{Rose, Wrote, bytes_named}
-use Rattle.cb_top.specs.Built.{VerifySays, Output, file_bytes}
+use Rattle.cb_top.specs.Built.{ClausesSay, VerifySays, Output, file_bytes}
 use Rattle.cb_top.specs.declared.Line.{Line}
 use Rattle.cb_top.specs.declared.Line.TheVariants.{Fixed, Made}
 
@@ -22,6 +23,12 @@ line_bytes (Made v) = v.items
 pub record Decides (file name : Text) (nodes : Nodes) (text : Text) (result : Outcome) : Type 0 where
   pub lines : List Text
   pub says : VerifySays file name nodes lines result
+  pub is : text ≡ lines_text lines
+
+-- the same over the file's clauses
+pub record ClausesDecide (cs : List FormClause) (name : Text) (nodes : Nodes) (text : Text) (result : Outcome) : Type 0 where
+  pub lines : List Text
+  pub says : ClausesSay cs name nodes lines result
   pub is : text ≡ lines_text lines
 
 -- the same over the bytes that were loaded, which are those that are told of the file

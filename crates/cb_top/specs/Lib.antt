@@ -1,5 +1,6 @@
 pub mod Words
 pub mod Lines
+pub mod Refusals
 pub mod Built
 pub mod Top
 pub mod Answers

@@ -2,25 +2,34 @@
 #![tactic(auto)]
 
 ghost use Rattle.std.specs.Prelude.{◌≡◌, ◌≢◌, ◌≤◌, [], ◌∷◌, length, map, string_bytes, None, IfOk, IfErr, IsOk};
+ghost use Rattle.std.specs.List.{list_all};
 ghost use Rattle.cb_model.specs.Commands.{command_of};
 ghost use Rattle.cb_model.specs.Text.{lines_text};
 ghost use Rattle.cb_model.specs.Refusals.{refusal_line, unbuilt};
 ghost use Rattle.cb_model.specs.Outside.{Rose};
 ghost use Rattle.cb_model.specs.Top.{HasUsage, NamesNumber};
 ghost use Rattle.cb_top.specs.Top.{Prints};
+ghost use Rattle.cb_model.specs.Forms.{clause_form};
+ghost use Rattle.cb_model.specs.Loading.{is_fact};
+ghost use Rattle.cb_model.specs.Written.{AreClauses};
 ghost use Rattle.cb_top.specs.Words.{nodes_view};
-ghost use Rattle.cb_top.specs.Answers.{line_bytes, Decides, VerifyAnswers, Answers, BreaksOff, Finishes, VerdictSays, FitsPorts};
+ghost use Rattle.cb_top.specs.Refusals.{refusal_view};
+ghost use Rattle.cb_top.specs.Answers.{line_bytes, Decides, ClausesDecide, VerifyAnswers, Answers, BreaksOff, Finishes, VerdictSays, FitsPorts};
 ghost use Rattle.cb_top.specs.declared.lines.TheConstants.{STOPPED_NODES};
 
-use cb_circ::first_form;
+use cb_circ::{first_form, is_fact};
 use cb_dd::Stop;
 use cb_host::{Files, Load, Sink, Source, write_all};
+use cb_model::RawClause;
 pub use cb_model::{Outcome, Side};
+use cb_syntax::read_clauses;
 use cb_verify::{Verdict, compare};
+use refusals::Refusal;
 use std::alloc::{AllocError, Global};
 use words::{Command, Nodes};
 
 mod lines;
+mod refusals;
 mod words;
 
 /// The most bytes of a file.
@@ -84,6 +93,17 @@ impl Answer {
             line: Line::Fixed(line),
             outcome: Outcome::Refused(number),
         }
+    }
+
+    // The answer of a refusal that names a place in the file.
+    fn placed(alloc: Global, refusal: &Refusal) -> Result<Answer, AllocError>
+        ensures { IfOk result (λ a. (line_bytes a.line ≡ lines_text (refusal_line (refusal_view refusal.now) ∷ [])) × (a.outcome ≡ Outcome.Refused refusal.now.number)) }
+    {
+        let line = refusal.line(alloc)?;
+        Ok(Answer {
+            line: Line::Made(line),
+            outcome: Outcome::Refused(refusal.number),
+        })
     }
 
     // The answer where the budget of nodes was reached.
@@ -152,7 +172,29 @@ fn decide(alloc: Global, name: &[u8], nodes: Nodes, bytes: &[u8]) -> Result<Answ
     requires { length bytes.now ≤ 4194304 }
     ensures { IfOk result (λ a. Decides bytes.now name.now (nodes_view nodes) (line_bytes a.line) a.outcome) }
 {
-    let Some(first) = first_form(alloc, bytes, name)? else {
+    match read_clauses(alloc, bytes) {
+        Ok(clauses) => compared(alloc, name, nodes, clauses.as_slice()),
+        Err(error) => match refusals::unread(error) {
+            Some(refusal) => Answer::placed(alloc, &refusal),
+            None => Err(AllocError),
+        },
+    }
+}
+
+// What `verify` says over the clauses of its file.
+fn compared(
+    alloc: Global,
+    name: &[u8],
+    nodes: Nodes,
+    clauses: &[RawClause<'_>],
+) -> Result<Answer, AllocError>
+    requires { AreClauses 4194304 (map clause_form clauses.now) }
+    ensures { IfOk result (λ a. ClausesDecide (map clause_form clauses.now) name.now (nodes_view nodes) (line_bytes a.line) a.outcome) }
+{
+    if !are_facts(clauses) {
+        return Ok(Answer::unbuilt());
+    }
+    let Some(first) = first_form(alloc, clauses, name)? else {
         return Ok(Answer::unbuilt());
     };
     match compare(alloc, &first.circuit, first.spec.as_slice(), nodes.budget()) {
@@ -160,6 +202,18 @@ fn decide(alloc: Global, name: &[u8], nodes: Nodes, bytes: &[u8]) -> Result<Answ
         Err(Stop::Nodes) => Ok(Answer::stopped()),
         Err(Stop::Memory) => Err(AllocError),
     }
+}
+
+// Whether all clauses are facts of circuits.
+fn are_facts(clauses: &[RawClause<'_>]) -> bool
+    ensures { result ≡ list_all is_fact (map clause_form clauses.now) }
+{
+    for clause in clauses {
+        if !is_fact(clause) {
+            return false;
+        }
+    }
+    true
 }
 
 // The answer of a comparison.

@@ -1,6 +1,6 @@
 use Rattle.std.proofs.Common.{arith}
 use Rattle.std.proofs.lemmas.Result.{err_from_is_err_and}
-use Rattle.cb_circ.proofs.FactSteps.{Refuses-weaker}
+use Rattle.cb_circ.proofs.Stops.{Refuses-weaker}
 use Rattle.cb_circ.proofs.FirstSteps.{nets_count, gates_count, outputs_lost, is_circuit, lent_table, lent_gates, lent_numbers, lent_lacks}
 use Rattle.cb_circ.proofs.first.circuit.Goals as goal
 

@@ -1,5 +1,5 @@
 use Rattle.cb_circ.proofs.NumberSteps.{pairs_on, no_left, no_right, pairs_end}
-use Rattle.cb_circ.proofs.FactSteps.{Refuses-weaker}
+use Rattle.cb_circ.proofs.Stops.{Refuses-weaker}
 use Rattle.std.proofs.lemmas.Result.{err_from_is_err_and}
 use Rattle.cb_circ.proofs.numbering.expressions.Goals as goal
 

@@ -1,5 +1,5 @@
 use Rattle.cb_circ.proofs.NumberSteps.{table_on, no_table, table_end}
-use Rattle.cb_circ.proofs.FactSteps.{Refuses-weaker}
+use Rattle.cb_circ.proofs.Stops.{Refuses-weaker}
 use Rattle.std.proofs.lemmas.Result.{err_from_is_err_and}
 use Rattle.cb_circ.proofs.numbering.table.Goals as goal
 

@@ -1,0 +1,28 @@
+-- Refusals that name a place in the file.
+use Rattle.std.specs.Prelude.{Option, Some, None, codes}
+use Rattle.cb_model.specs.Text.{Text}
+use Rattle.cb_model.specs.Refusals.{Refused, refused, at_byte, at_line}
+use Rattle.cb_model.specs.Output.{fault_refused}
+use Rattle.cb_lex.specs.Faults.{fault_of}
+use Rattle.cb_syntax.specs.declared.texts.ReadError.{ReadError}
+use Rattle.cb_syntax.specs.declared.texts.ReadError.TheVariants as read
+use Rattle.cb_top.specs.declared.refusals.Place.{Place}
+use Rattle.cb_top.specs.declared.refusals.Place.TheVariants.{Byte, Line}
+use Rattle.cb_top.specs.declared.refusals.Refusal.{Refusal}
+
+-- a place
+abbrev pub place_text : Place → Text
+place_text (Byte n) = at_byte n
+place_text (Line n) = at_line n
+
+-- a refusal, without the places of its text in memory
+abbrev pub refusal_view : Refusal → Refused
+refusal_view r = refused r.number (place_text r.place) r.text.now
+
+-- the refusal of a text that is not read; want of memory is none
+abbrev pub read_refused : ReadError → Option Refused
+read_refused (read.Lex e) = Some (fault_refused (fault_of e))
+read_refused (read.Syntax n) = Some (refused 4 (at_line n) (codes "syntax"))
+read_refused (read.Unfinished n) = Some (refused 5 (at_line n) (codes "unfinished clause"))
+read_refused (read.Deep n) = Some (refused 6 (at_line n) (codes "nested too deep"))
+read_refused read.Memory = None

@@ -1,0 +1,109 @@
+//! Refusals that name a place in the file.
+
+ghost use Rattle.std.specs.Prelude.{◌≡◌, [], ◌∷◌, ◌++◌, IfOk, OnOk};
+ghost use Rattle.std.specs.Option.{option_map};
+ghost use Rattle.cb_model.specs.Text.{lines_text};
+ghost use Rattle.cb_model.specs.Output.{fault_refused};
+ghost use Rattle.cb_model.specs.Refusals.{refusal_line};
+ghost use Rattle.cb_lex.specs.Faults.{fault_of};
+ghost use Rattle.cb_top.specs.Refusals.{place_text, refusal_view, read_refused};
+
+use cb_lex::LexError;
+use cb_syntax::ReadError;
+use itoa::Buffer;
+use std::alloc::{AllocError, Global};
+
+/// A place in a file.
+#[derive(Clone, Copy)]
+pub enum Place {
+    /// The number of a byte, counted from 0.
+    Byte(u32),
+    /// The number of a line, counted from 1.
+    Line(u32),
+}
+
+/// A refusal that names a place, by its number and its text.
+#[derive(Clone, Copy)]
+pub struct Refusal {
+    pub number: u8,
+    pub place: Place,
+    pub text: &'static [u8],
+}
+
+impl Refusal {
+    /// The whole line that is printed.
+    pub fn line(&self, alloc: Global) -> Result<Vec<u8>, AllocError>
+        ensures { IfOk result (λ v. v.items ≡ lines_text (refusal_line (refusal_view self.now) ∷ [])) }
+    {
+        let mut line = Vec::from_slice(alloc, b"error: ")?;
+        push_place(&mut line, self.place)?;
+        line.extend_from_slice(self.text)?;
+        line.push(b'\n')?;
+        Ok(line)
+    }
+}
+
+// A refusal that names a byte.
+fn at_byte(number: u8, byte: u32, text: &'static [u8]) -> Refusal
+    ensures { result ≡ record { number = number; place = Place.Byte byte; text = text.entry } }
+{
+    Refusal {
+        number,
+        place: Place::Byte(byte),
+        text,
+    }
+}
+
+// A refusal that names a line.
+fn at_line(number: u8, line: u32, text: &'static [u8]) -> Refusal
+    ensures { result ≡ record { number = number; place = Place.Line line; text = text.entry } }
+{
+    Refusal {
+        number,
+        place: Place::Line(line),
+        text,
+    }
+}
+
+// The refusal of the first fault of the bytes.
+fn of_bytes(fault: LexError) -> Refusal
+    ensures { refusal_view result ≡ fault_refused (fault_of fault) }
+{
+    match fault {
+        LexError::Byte(byte) => at_byte(1, byte, b"unexpected byte"),
+        LexError::Number(byte) => at_byte(2, byte, b"number out of range"),
+        LexError::Quote(byte) => at_byte(3, byte, b"unclosed quote"),
+    }
+}
+
+/// The refusal of a text that is not read; `None` for want of memory.
+pub fn unread(error: ReadError) -> Option<Refusal>
+    ensures { option_map refusal_view result ≡ read_refused error }
+{
+    match error {
+        ReadError::Lex(fault) => Some(of_bytes(fault)),
+        ReadError::Syntax(line) => Some(at_line(4, line, b"syntax")),
+        ReadError::Unfinished(line) => Some(at_line(5, line, b"unfinished clause")),
+        ReadError::Deep(line) => Some(at_line(6, line, b"nested too deep")),
+        ReadError::Memory => None,
+    }
+}
+
+// Appends a place as it is printed, up to the text of its refusal.
+fn push_place(line: &mut Vec<u8>, place: Place) -> Result<(), AllocError>
+    ensures { OnOk result (line.new.items ≡ line.old.items ++ place_text place) }
+{
+    let mut number = Buffer::new();
+    match place {
+        Place::Byte(at) => {
+            line.extend_from_slice(b"byte ")?;
+            line.extend_from_slice(number.format(at).as_bytes())?;
+        }
+        Place::Line(at) => {
+            line.extend_from_slice(b"line ")?;
+            line.extend_from_slice(number.format(at).as_bytes())?;
+        }
+    }
+    line.extend_from_slice(b": ")?;
+    Ok(())
+}
