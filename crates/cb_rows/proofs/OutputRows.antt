@@ -1,6 +1,6 @@
 -- A whole run, from the bytes of the file and the input to the text.
-use Rattle.std.proofs.Common.{◌≡◌, ℕ, zero, suc, Bool, true, false, List, [], ◌∷◌, refl, sym, ◌∙◌, ap, subst, codes, arith, rules, inl, inr, pos, lit<, lit≤}
-use Rattle.std.specs.Prelude.{Option, Some, None, All, AllPairs, slice_get, Contains}
+use Rattle.std.proofs.Common.{◌≡◌, ◌<◌, ℕ, zero, suc, Bool, true, false, List, [], ◌∷◌, refl, sym, ◌∙◌, ap, subst, codes, arith, rules, inl, inr, pos, lit<, lit≤}
+use Rattle.std.specs.Prelude.{Option, Some, None, All, AllPairs, slice_get, Contains, sum, map}
 use Rattle.std.specs.Fmt.{digits}
 use Rattle.std.specs.List.{list_all}
 use Rattle.cb_model.specs.declared.Sort.{Sort}
@@ -16,15 +16,21 @@ use Rattle.cb_model.specs.Values.{Valuation}
 use Rattle.cb_model.specs.Equations.{Meets}
 use Rattle.cb_model.specs.Tokens.{Token, Lexes, ended, layout, token, byte, Byte}
 use Rattle.cb_model.specs.Grammar.{Form, Integer, Variable, Name, Last, one, Plus, a_prim, an_integer, a_variable, a_call, an_atom, a_compound, exprs, no_comma, FormClause, FormQuery, FormGoal, AnEqual, ReadsClause, directive, fact, equals, calls, last_goal, more_goals, ReadsQuery, a_query, ReadsAll, no_more, one_more, CanGoOn, nestings, IsReading, whole, lexed, unfinished, Whole, Lexed, Unfinished}
-use Rattle.cb_model.specs.Commands.{Max}
-use Rattle.cb_model.specs.Derivation.{Whole as Ended}
+use Rattle.cb_model.specs.Bits.{none}
+use Rattle.cb_model.specs.Commands.{Max, Only}
+use Rattle.cb_model.specs.Derivation.{Whole as Ended, Run, Try, Made, Printed, Answered, Becomes, Adds, here, on, SoFar, Branch, extended, head_item, first_branch}
+use Rattle.cb_model.specs.Room.{room_with, expr_size, expr_size_step, tree_size, tree_size_step}
+use Rattle.cb_model.specs.declared.Expr.TheOpen.{Expr-F}
+use Rattle.cb_model.specs.declared.Expr.TheFolds.{fold-roll-Expr}
+use Rattle.cb_model.specs.declared.Tree.TheOpen.{Tree-F}
+use Rattle.cb_model.specs.declared.Tree.TheFolds.{fold-roll-Tree}
 use Rattle.cb_model.specs.Answers.{IsShape, Gives, Gen}
 use Rattle.cb_model.specs.Line.{IsLine, told}
 use Rattle.cb_model.specs.Sorts.{Body, Marked, at_place, by_form, from_side, to_side, IsSide, left, right, Subject, Var, Equation, Clash, two_marks, wrong_place, wrong_side, bit_at_bus, bit_of_bus, all_places, form_sort}
 use Rattle.cb_model.specs.Loading.{BodyRefusal, body_of, query_body, RulesRefusal, no_sorts, more_sorts, a_call as the_call, an_equal, no_goals, more_goals as goals_more, skips_directive, a_clause, no_clauses, IsClause}
 use Rattle.cb_model.specs.Loading as load
 use Rattle.cb_model.specs.Facts.{no_facts, no_fact}
-use Rattle.cb_model.specs.Output.{IsLoaded, FileRefused, unread, QueriesRefusal, InputRefused, QuerySays, all, more_lines, no_lines, QueriesSay, no_queries, more_queries, IsQuery, Output, OutputBegins, begins}
+use Rattle.cb_model.specs.Output.{IsLoaded, FileRefused, unread, QueriesRefusal, InputRefused, QuerySays, all, few_adding, more_lines, no_lines, QueriesSay, no_queries, more_queries, IsQuery, Output, OutputBegins, begins}
 use Rattle.cb_model.specs.Output as out
 use Rattle.cb_laws.proofs.Values.{expr_values, tree_values}
 use Rattle.cb_laws.proofs.Tables.{zero_fits, bits_equal}
@@ -277,6 +283,46 @@ line = told leaf ((λ e. true) ∷ []) one_shape (simp (shape_values, text_value
 pub says : QuerySays try.p try.q names 2 Max (codes "X = 1" ∷ codes "end" ∷ []) false
 says = all _ Ended (codes "X = 1" ∷ []) try_proof.plain (more_lines line no_lines) refl refl
 
+-- ---- a stop behind the answer
+
+swapped_line : IsLine try.swapped names (try.equated expr.One) (codes "X = 1")
+swapped_line = told leaf ((λ e. true) ∷ []) one_shape (simp (shape_values, text_values) refl) (λ env. one_gen env (env 0)) (simp shape_values refl)
+    (simp (shape_values, text_values) refl)
+
+answered : SoFar try.swapped try.q 2
+    (Made (first_branch try.q) ∷ Made (try.called expr.One) ∷ Made (try.equated expr.One) ∷ Printed (try.equated expr.One) ∷ []) 1
+    (Try try.behind 0 (try.X ∷ []) 1 ∷ [])
+answered = record {
+  begins = refl;
+  rest = Made (try.called expr.One) ∷ Made (try.equated expr.One) ∷ Printed (try.equated expr.One) ∷ [];
+  goes =
+      on (Becomes (Try try.behind 0 (try.X ∷ []) 0)) (Try try.behind 0 (try.X ∷ []) 0 ∷ []) _ (inl (tt, refl)) refl refl refl
+      (on (Adds 1 (Try try.behind 0 (try.X ∷ []) 1 ∷ []) (try.called expr.One)) (Run (try.called expr.One) ∷ Try try.behind 0 (try.X ∷ []) 1 ∷ []) _ (try.fact expr.One, refl, refl) refl
+      (inl (try_proof.calls_one, (try.called expr.One, (record { ready = []; rest = []; parts = none; is = refl }, refl)))) refl
+      (on (Adds 0 [] (try.equated expr.One)) (Run (try.equated expr.One) ∷ []) _ refl refl
+      (inl (try_proof.answers_one, (try.equated expr.One, (record { ready = []; rest = []; parts = none; is = refl }, refl)))) refl
+      (on (Answered (try.equated expr.One)) [] [] refl refl refl refl here)));
+  is = refl;
+}
+
+size-zero : expr_size expr.Zero ≡ 1
+size-zero = ap expr_size (sym expr.rolls-Zero) ∙ fold-roll-Expr ℕ expr_size_step Expr-F.Zero
+
+size-arguments : (n : ℕ) (t : Tree) (ts : List Tree) → tree_size (tree.Node n (t ∷ ts)) ≡ sum (map tree_size (t ∷ ts))
+size-arguments n t ts = ap tree_size (sym (tree.rolls-Node n (t ∷ ts))) ∙ fold-roll-Tree ℕ tree_size_step (Tree-F.Node n (t ∷ ts))
+
+-- the branch with the clause's argument
+abbrev added : Tree → Branch
+added t = extended try.behind try.behind.goals (head_item 0 (t ∷ []) (try.X ∷ []) ∷ []) []
+
+too_few : 147455 < room_with try.swapped (try.called expr.Zero) 0
+too_few = subst (λ t. 147455 < room_with try.swapped (added t) 0) (sym (try_proof.shift-leaf 1 expr.Zero ∙ ap tree.Leaf (try_proof.shift-zero 1))) (simp (size-zero, size-arguments, size_values) (lit< tt))
+
+stop_behind_answer : QuerySays try.swapped try.q names 2 (Only 147455) (codes "X = 1" ∷ codes "stopped: nodes" ∷ []) true
+stop_behind_answer =
+    few_adding _ 1 (Try try.behind 0 (try.X ∷ []) 1) [] 1 [] (try.called expr.Zero) (codes "X = 1" ∷ []) answered (try.fact expr.Zero, refl, refl) refl
+    (more_lines swapped_line no_lines) (inl too_few) refl
+
 -- ---- the whole
 
 accepts : QueriesRefusal loaded (the_query ∷ []) None
@@ -346,6 +392,7 @@ rows_hold = record {
   checked = record { lines = codes "checked: 2 clauses, 0 modules" ∷ []; says = inr (loaded, (file_loaded, (refl, refl))); is = refl };
   the_query = is_query;
   query_lines = says;
+  stop_behind_answer = stop_behind_answer;
   run = run;
   begins = begins _ outcome.Done run (_, refl);
   takes = inl (loaded, (file_loaded, inl refl));

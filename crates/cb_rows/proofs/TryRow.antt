@@ -34,7 +34,7 @@ argument g = g
 calls_zero : Solvable p.world (called expr.Zero).items
 calls_zero a ok = record { b = with_bits (λ n. false); sorted = λ n. zero_fits; sat = (simp (shift-leaf, shift-zero, tree_values, expr_values) refl, tt) }
 
-calls_one : Solvable p.world (called expr.One).items
+pub calls_one : Solvable p.world (called expr.One).items
 calls_one a ok = record { b = with_bits (λ n. true); sorted = λ n. zero_fits; sat = (simp (shift-leaf, shift-one, tree_values, expr_values) refl, tt) }
 
 pub answers_one : Solvable p.world (equated expr.One).items

@@ -1,5 +1,5 @@
 -- Whole runs of the program, from the words and the bytes to the text and the outcome.
-use Rattle.std.specs.Prelude.{ℕ, false, List, [], ◌∷◌, codes, Some, pos}
+use Rattle.std.specs.Prelude.{ℕ, true, false, List, [], ◌∷◌, codes, Some, pos}
 use Rattle.cb_model.specs.declared.Sort.TheVariants as sort
 use Rattle.cb_model.specs.declared.Outcome.TheVariants as outcome
 use Rattle.cb_model.specs.Text.{Text, lines_text}
@@ -101,6 +101,8 @@ pub record OutputExamples : Type 0 where
   -- a query over it, and its lines
   pub the_query : IsQuery loaded goals try.p try.q names
   pub query_lines : QuerySays try.p try.q names 2 Max (codes "X = 1" ∷ codes "end" ∷ []) false
+  -- with the clauses the other way round, a stop for nodes while the second clause's branch is added, behind the answer
+  pub stop_behind_answer : QuerySays try.swapped try.q names 2 (Only 147455) (codes "X = 1" ∷ codes "stopped: nodes" ∷ []) true
   pub run : Output (run_words (codes "2")) file input (lines_text (codes "X = 1" ∷ codes "end" ∷ [])) outcome.Done
   -- what the query has printed may be all that was written when a run broke off
   pub begins : OutputBegins (run_words (codes "2")) file input (codes "X =")

@@ -38,3 +38,7 @@ equated e = extended (record (called e) { goals = [] }) [] (Pair X one ∷ []) [
 
 abbrev pub notes : List Note
 notes = Made (called expr.Zero) ∷ Made (equated expr.Zero) ∷ Made (called expr.One) ∷ Made (equated expr.One) ∷ Printed (equated expr.One) ∷ []
+
+-- the clauses the other way round: the first answers, and the second is tried then
+abbrev pub swapped : Program
+swapped = record p { clauses = fact expr.One ∷ fact expr.Zero ∷ [] }
