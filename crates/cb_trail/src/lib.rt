@@ -1,7 +1,7 @@
 //! An undo list: what was pushed last is taken back first (the trail of Warren's abstract machine, 1983).
 #![tactic(auto)]
 
-ghost use Rattle.std.specs.Prelude.{◌≡◌, ◌<◌, ◌≤◌, ◌↔◌, [], ◌∷◌, ◌++◌, length, IsSome, IfSome, IfNone, OnOk, OnErr, IfErr};
+ghost use Rattle.std.specs.Prelude.{◌≡◌, ◌<◌, ◌≤◌, ◌↔◌, [], ◌∷◌, ◌++◌, length, IsSome, IfSome, IfNone, OnOk, OnErr, IfErr, option_copied, slice_get};
 
 use std::alloc::{AllocError, Global};
 use std::marker::Model;
@@ -49,6 +49,13 @@ impl<T> Trail<T> {
         self.items.len() as u64
     }
 
+    /// The k-th change, from 0, in the order of making.
+    pub fn get(&self, k: u64) -> Option<&T>
+        ensures { option_copied result ≡ slice_get self.now k }
+    {
+        self.items.get(k as usize)
+    }
+
     /// Takes back the newest change that was made past the mark, if there is one.
     pub fn undo_next(&mut self, to: u64) -> Option<T>
         ensures some { IsSome result ↔ (to < length self.old) }
@@ -73,6 +80,7 @@ mod tests {
         let start = trail.mark();
         assert_eq!(rt; trail.push(7).is_ok(), true);
         assert_eq!(rt; trail.push(8).is_ok(), true);
+        assert_eq!(rt; trail.get(1).copied(), Some(8));
         assert_eq!(rt; trail.undo_next(start), Some(8));
         assert_eq!(rt; trail.undo_next(start), Some(7));
         assert_eq!(rt; trail.undo_next(start), None);

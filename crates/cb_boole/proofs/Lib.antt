@@ -1,0 +1,10 @@
+pub mod Point
+pub mod One
+pub mod Chain
+pub mod Only
+pub mod Unify
+pub mod History
+pub mod Grow
+pub mod Known
+pub mod Bounds
+pub mod Laws

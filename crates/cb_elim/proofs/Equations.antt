@@ -1,0 +1,238 @@
+-- From elimination on nodes to the range of a store.
+use Rattle.std.proofs.Common.{◌≡◌, ◌≢◌, ◌⊎◌, inl, inr, ◌↔◌, ℕ, zero, suc, ◌+◌, ◌<◌, ◌≤◌, Bool, true, false, not, List, [], ◌∷◌, ◌++◌, length, take, Option, Some, None, Result, Ok, Err, refl, sym, ap, ap₂, subst, ◌∙◌, arith, not-le_of_lt}
+use Rattle.std.proofs.lemmas.Bool.{cases_Bool, cases_eq, cases_lt, true≢false}
+use Rattle.std.proofs.lemmas.List.{append-nil, take-append-le}
+use Rattle.std.proofs.Math.Seq.{take-length}
+use Rattle.std.proofs.Math.Path.{fun_ext}
+use Rattle.cb_model.specs.Bits.{Bits, Each, put, xor}
+use Rattle.cb_dd.specs.declared.Node.{Node}
+use Rattle.cb_dd.specs.declared.Stop.{Stop}
+use Rattle.cb_dd.specs.declared.Triple.{Triple}
+use Rattle.cb_dd.specs.Diagram.{Store, IsNode, function_of}
+use Rattle.cb_ops.specs.Ops.{Grows}
+use Rattle.cb_ops.specs.Support.{IsListed}
+use Rattle.cb_boole.specs.Elimination.{Function, DependsOnly, AreAlike, rest, solved}
+use Rattle.cb_boole.specs.View.{View, IsLive, IsGood, IsFit, InRange, point, unified}
+use Rattle.cb_boole.proofs.Point.{put_other, put_own}
+use Rattle.cb_boole.proofs.Only.{IsHeld, weaker}
+use Rattle.cb_boole.proofs.Unify.{AreFree, cases_stands, left_from, left_into, not_solvable, good_after, is_instance, got_back}
+use Rattle.cb_boole.proofs.Grow.{fit_two}
+use Rattle.cb_solution.proofs.Solved.{listed-here, listed-there, listed-cases}
+use Rattle.cb_elim.specs.declared.Free.{Free}
+use Rattle.cb_elim.specs.declared.Change.{Change}
+use Rattle.cb_elim.specs.Store.{Seen, IsStore, IsArgument, IsAsBefore, OnlyNodes, AreThere, with_fulls, IsVariableOf, stands_in, value_in, view_of}
+use Rattle.cb_elim.specs.Equation.{IsElimination, IsGeneral, HasNoSolution, differ}
+use Rattle.cb_elim.specs.Unified.{IsSolved, HasNone, OnlyValues, IsMostGeneral, IsReproductive}
+use Rattle.cb_elim.specs.Moments.{KeepsMoments, changes_from, undone}
+use Rattle.cb_elim.proofs.Views.{with_values, store-fulls}
+use Rattle.cb_elim.proofs.Back.{keeps}
+use Rattle.cb_elim.proofs.Changes.{undone-from, changes-within, each-append}
+
+-- the two functions agree where their difference is 0
+xor-agree : (x y : Bool) → xor x y ≡ false → x ≡ y
+xor-agree true true h = refl
+xor-agree true false h = cc
+xor-agree false true h = cc
+xor-agree false false h = refl
+
+xor-equal : (x y : Bool) → x ≡ y → xor x y ≡ false
+xor-equal true y h = rw (← h)
+xor-equal false y h = rw (← h)
+
+-- what elimination takes is free: a function that meets the condition depends on no other levels but constants
+module _ (S : View) (t : Function) (fit : IsFit S t) where
+  free-one : (l : ℕ) → S.constants ≤ l → (((p : Bits) (b : Bool) → t (put l b p) ≡ t p) → ⊥) → (S.stands l ≡ None) ⊎ ((x : ℕ) × (S.stands l ≡ Some x)) → (x : ℕ) × (S.stands l ≡ Some x)
+  free-one l h needed (inr w) = w
+  free-one l h needed (inl e) = absurd (needed (λ p b. fit.only (put l b p) p (λ k w. put_other p l b k (off k w))))
+    where
+      clash : (x : ℕ) → S.stands l ≡ Some x → ⊥
+      clash x w = cc
+      off : (k : ℕ) → IsLive S k → k ≢ l
+      off k (inl w) i = not-le_of_lt w (subst (λ j. S.constants ≤ j) (sym i) h)
+      off k (inr (x, w)) i = clash x (subst (λ j. S.stands j ≡ Some x) i w)
+
+  pub free-all : (ls : List ℕ) → ((l : ℕ) → IsListed ls l → S.constants ≤ l) → ((l : ℕ) → IsListed ls l → ((p : Bits) (b : Bool) → t (put l b p) ≡ t p) → ⊥) → AreFree S ls
+  free-all [] h needed = tt
+  free-all (l ∷ ls) h needed = (
+    free-one l (h l (listed-here l ls)) (needed l (listed-here l ls)) (cases_stands (S.stands l)),
+    free-all ls (λ k w. h k (listed-there l k ls w)) (λ k w. needed k (listed-there l k ls w)),
+  )
+
+held-from : (c : ℕ) (ls : List ℕ) (l : ℕ) → (l < c) ⊎ IsListed ls l → IsHeld c ls l
+held-from c [] l (inl h) = h
+held-from c [] l (inr none) = absurd (true≢false (sym none))
+held-from c (k ∷ ls) l (inl h) = inr (held-from c ls l (inl h))
+held-from c (k ∷ ls) l (inr h) = elim (listed-cases k l ls h) [ inl same ↦ inl same | inr there ↦ inr (held-from c ls l (inr there)) ]
+
+module _ (s : Seen) (st : IsStore s) (f g : ℕ) (a : IsArgument s f) (b : IsArgument s g) where
+  fit-differ : IsFit (view_of s) (differ s.nodes.triples f g)
+  fit-differ = fit_two (view_of s) xor (function_of s.nodes.triples f) (function_of s.nodes.triples g) a.fit b.fit
+
+  module _ (ls : List ℕ) (el : IsElimination s.constants (differ s.nodes.triples f g) ls) where
+    are-free : AreFree (view_of s) ls
+    unfolding view_of
+    are-free = free-all (view_of s) (differ s.nodes.triples f g) fit-differ ls el.free el.needed
+
+    are-held : DependsOnly (IsHeld s.constants ls) (differ s.nodes.triples f g)
+    are-held = weaker (λ l. (l < s.constants) ⊎ IsListed ls l) (IsHeld s.constants ls) (differ s.nodes.triples f g) el.whole (λ l h. held-from s.constants ls l h)
+
+    pub has-none : (p : Bits) → rest ls (differ s.nodes.triples f g) p ≡ true → HasNone (view_of s) (function_of s.nodes.triples f) (function_of s.nodes.triples g)
+    unfolding view_of
+    has-none p h = record {
+      at = p;
+      none = λ c r e. true≢false
+          (sym (not_solvable (view_of s) st.good ls (differ s.nodes.triples f g) fit-differ are-held p h c r)
+          ∙ xor-equal (function_of s.nodes.triples f (point (stands_in s.free) p c)) (function_of s.nodes.triples g (point (stands_in s.free) p c)) e);
+    }
+
+    module _ (none_left : (p : Bits) → rest ls (differ s.nodes.triples f g) p ≡ false) where
+      S' : View
+      S' = unified (view_of s) ls (differ s.nodes.triples f g)
+
+      good-unified : IsGood (unified (view_of s) ls (differ s.nodes.triples f g))
+      good-unified = good_after (view_of s) st.good ls are-free (differ s.nodes.triples f g) fit-differ none_left
+
+      solved-unified : IsSolved (view_of s) (unified (view_of s) ls (differ s.nodes.triples f g)) (function_of s.nodes.triples f) (function_of s.nodes.triples g)
+      solved-unified = record {
+        left = λ p c. (
+          (λ r. let w = left_from (view_of s) st.good ls are-free (differ s.nodes.triples f g) fit-differ none_left p c r in (w.0, xor-agree _ _ w.1)),
+          (λ w. left_into (view_of s) st.good ls (differ s.nodes.triples f g) fit-differ p c w.0 (xor-equal _ _ w.1)),
+        );
+        some = λ p.
+            let q : Bits = solved ls (differ s.nodes.triples f g) p in
+            ((λ x. (view_of s).values x q), record { at = p; agrees = λ k w. refl; gives = λ x v. refl });
+      }
+
+      -- the store with these values
+      module _ (vs : List Node) (cs : List Change) (t : Store) (at : (x : ℕ) (p : Bits) → value_in t.triples vs x p ≡ value_in s.nodes.triples s.slots x (solved ls (differ s.nodes.triples f g) p)) where
+        view-unified : view_of (record s { slots = vs; trail = cs; nodes = t }) ≡ unified (view_of s) ls (differ s.nodes.triples f g)
+        unfolding view_of
+        view-unified = ap (λ (v : ℕ → Function). with_values s v) (fun_ext (λ x. fun_ext (λ p. at x p)))
+
+        pub is-solved : IsSolved (view_of s) (view_of (record s { slots = vs; trail = cs; nodes = t })) (function_of s.nodes.triples f) (function_of s.nodes.triples g)
+        is-solved = subst (λ (T : View). IsSolved (view_of s) T (function_of s.nodes.triples f) (function_of s.nodes.triples g)) (sym view-unified) solved-unified
+
+        pub store-solved : AreThere t.triples vs → length vs ≡ length s.slots → Each (λ c. c.slot < length s.slots) cs → IsStore (record s { slots = vs; trail = cs; nodes = t })
+        store-solved there number within = record {
+          good = subst IsGood (sym view-unified) good-unified;
+          slots = λ x h. let w : x < length s.slots = st.slots x h in omega arith;
+          levels = st.levels;
+          constants = st.constants;
+          nodes = there;
+          trail = subst (λ n. Each (λ c. c.slot < n) cs) (sym number) within;
+        }
+
+-- ---- as the code leaves the store
+
+module _ (now s : Seen) (is : s ≡ now) (st : IsStore now) (f g : ℕ) (a : IsArgument now f) (b : IsArgument now g) where
+  inside : IsStore s
+  inside = subst IsStore (sym is) st
+
+  argument : (n : ℕ) → IsArgument now n → IsArgument s n
+  argument n h = subst (λ (o : Seen). IsArgument o n) (sym is) h
+
+  pub solve-none : HasNoSolution s.nodes.triples s.constants f g → HasNone (view_of now) (function_of now.nodes.triples f) (function_of now.nodes.triples g)
+  solve-none h = subst (λ (o : Seen). HasNone (view_of o) (function_of o.nodes.triples f) (function_of o.nodes.triples g)) is
+    (has-none s inside f g (argument f a) (argument g b) h.levels h.elimination h.at h.left)
+
+  module _ (vs : List Node) (cs : List Change) (t : Store) (gen : IsGeneral s.nodes.triples t.triples s.constants s.slots f g vs) where
+    pub solve-solved : IsSolved (view_of now) (view_of (record s { slots = vs; trail = cs; nodes = t })) (function_of now.nodes.triples f) (function_of now.nodes.triples g)
+    solve-solved = subst (λ (o : Seen). IsSolved (view_of o) (view_of (record s { slots = vs; trail = cs; nodes = t })) (function_of o.nodes.triples f) (function_of o.nodes.triples g)) is
+      (is-solved s inside f g (argument f a) (argument g b) gen.levels gen.elimination gen.none_left vs cs t gen.at)
+
+    module _ (trail : cs ≡ s.trail ++ changes_from 0 s.slots vs) where
+      pub solve-store : IsStore (record s { slots = vs; trail = cs; nodes = t })
+      solve-store = store-solved s inside f g (argument f a) (argument g b) gen.levels gen.elimination gen.none_left vs cs t gen.at gen.there gen.number
+        (subst (λ (xs : List Change). Each (λ c. c.slot < length s.slots) xs) (sym trail)
+          (each-append (length s.slots) s.trail (changes_from 0 s.slots vs) inside.trail (changes-within 0 s.slots vs (length s.slots) (omega arith))))
+
+      pub solve-values : Grows s.nodes t → OnlyValues now (record s { slots = vs; trail = cs; nodes = t })
+      solve-values grows = subst (λ (o : Seen). OnlyValues o (record s { slots = vs; trail = cs; nodes = t })) is (record {
+        constants = refl;
+        drawn = refl;
+        free = refl;
+        number = gen.number;
+        changes = changes_from 0 s.slots vs;
+        trail = trail;
+        slots = undone-from [] s.slots vs (sym gen.number);
+        nodes = grows;
+      })
+
+-- rewritten values are undone
+pub keeps-values : (old new : Seen) → OnlyValues old new → KeepsMoments old new
+keeps-values old new v = keeps old new (record {
+  constants = v.constants;
+  drawn = let e = v.drawn in omega arith;
+  more = [];
+  free = v.free ∙ sym (append-nil old.free);
+  changes = v.changes;
+  trail = v.trail;
+  number = let e = v.number in omega arith;
+  slots = ap (λ k. undone v.changes (take k new.slots)) (sym v.number) ∙ ap (λ ns. undone v.changes ns) (take-length new.slots) ∙ v.slots;
+  nodes = v.nodes;
+})
+
+-- ---- as before
+
+pub store-before : (old new : Seen) → IsStore old → IsAsBefore old new → IsStore new
+store-before old new st b = subst IsStore (sym b.same) (store-fulls new.nodes.fulls old st)
+
+pub keeps-before : (old new : Seen) → IsAsBefore old new → KeepsMoments old new
+keeps-before old new b = subst (λ (o : Seen). KeepsMoments old o) (sym b.same) (keeps old (with_fulls new.nodes.fulls old) (record {
+  constants = refl;
+  drawn = omega arith;
+  more = [];
+  free = sym (append-nil old.free);
+  changes = [];
+  trail = sym (append-nil old.trail);
+  number = omega arith;
+  slots = take-length old.slots;
+  nodes = record { budget = refl; more = []; triples = sym (append-nil old.nodes.triples); fulls = b.fulls };
+}))
+
+-- what was added is cut away
+pub cut-before : (old mid s : Seen) → s ≡ mid → OnlyNodes old mid → (n : ℕ) → n ≡ length old.nodes.triples → (u : Store) → u.triples ≡ take n s.nodes.triples → u.budget ≡ s.nodes.budget → u.fulls ≡ s.nodes.fulls →
+    IsAsBefore old (record s { nodes = u })
+cut-before old mid s is o n same u cut budget fulls = record {
+  same = ap (λ (v : Seen). record v { nodes = u }) (is ∙ o.same) ∙ (λ i. record old { nodes = record { budget = b i; triples = t i; fulls = u.fulls } });
+  fulls = let e = fulls in let d = ap (λ (v : Seen). v.nodes.fulls) is in let h = o.grows.fulls in omega arith;
+}
+  where
+    b : u.budget ≡ old.nodes.budget
+    b = budget ∙ ap (λ (v : Seen). v.nodes.budget) is ∙ o.grows.budget
+    t : u.triples ≡ old.nodes.triples
+    t = cut ∙ ap (λ (v : Seen). take n v.nodes.triples) is ∙ ap (λ k. take k mid.nodes.triples) same ∙ ap (λ ts. take (length old.nodes.triples) ts) o.grows.triples
+        ∙ take-append-le (length old.nodes.triples) old.nodes.triples o.grows.more (omega arith) ∙ take-length old.nodes.triples
+
+-- an equation of a node with itself
+pub same-solved : (s : Seen) (f g : ℕ) → f ≡ g → IsSolved (view_of s) (view_of s) (function_of s.nodes.triples f) (function_of s.nodes.triples g)
+same-solved s f g e = record {
+  left = λ a b. ((λ r. (r, ap (λ n. function_of s.nodes.triples n (point (view_of s).stands a b)) e)), (λ w. w.0));
+  some = λ a. ((λ x. (view_of s).values x a), record { at = a; agrees = λ k h. refl; gives = λ x v. refl });
+}
+
+pub same-values : (s : Seen) → OnlyValues s s
+same-values s = record {
+  constants = refl;
+  drawn = refl;
+  free = refl;
+  number = refl;
+  changes = [];
+  trail = sym (append-nil s.trail);
+  slots = refl;
+  nodes = record { budget = refl; more = []; triples = sym (append-nil s.nodes.triples); fulls = omega arith };
+}
+
+-- ---- what the invariant gives
+
+pub most-general : (s : Seen) → IsStore s → IsMostGeneral (view_of s)
+most-general s st short table sol x v a = is_instance (view_of s) st.good Bits short table sol x v a
+
+pub reproductive : (s : Seen) → IsStore s → IsReproductive (view_of s)
+reproductive s st a b r x v = got_back (view_of s) st.good a b r x v
+
+pub not-true : (r : Result Bool Stop) (b : Bool) → r ≡ Ok b → b ≡ false → r ≡ Ok true → ⊥
+not-true r b e f h = cc
+
+pub stop-not-true : (r : Result Bool Stop) (e : Stop) → r ≡ Err e → r ≡ Ok true → ⊥
+stop-not-true r e d h = cc

@@ -1,0 +1,11 @@
+pub mod Views
+pub mod Back
+pub mod Slots
+pub mod Equations
+pub mod Falling
+pub mod Levels
+pub mod Moved
+pub mod Changes
+pub mod Inside
+pub mod General
+pub mod Known

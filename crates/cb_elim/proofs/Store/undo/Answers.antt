@@ -1,0 +1,17 @@
+use Rattle.std.proofs.Common.{◌≡◌, take, drop, subst, sym, ap, arith, rules}
+use Rattle.std.proofs.lemmas.Grind.{common_steps}
+use Rattle.cb_elim.specs.Store.{Seen, IsStore}
+use Rattle.cb_elim.specs.Moments.{Moment, undone, reverted}
+use Rattle.cb_elim.proofs.Inside.{seen}
+use Rattle.cb_elim.proofs.Back.{undo-is}
+use Rattle.cb_elim.proofs.Store.undo.Goals as goal
+
+pub returns-clause-reverted : goal.returns-clause-reverted
+returns-clause-reverted c =
+    let m : Moment = record { nodes = c.to.inside.nodes; drawn = c.to.inside.drawn; free = c.to.inside.free; slots = c.to.inside.slots; trail = c.to.inside.trail } in
+    let slots : c.truncate.new.self.items ≡ take c.to.inside.slots (undone (drop c.to.inside.trail c.self.inside.trail) c.self.inside.slots.items) = grind (arith, common_steps) in
+    undo-is c.args.self.now (seen c.self.inside) c.self.view_is c.args.to m c.to.view_is c.restore.new.trail c.restore.ensures.trail c.truncate.new.self.items slots c.truncate-2.new.self.items c.truncate-2.ensures.items c.cut.new.self
+    c.cut.ensures.triples c.cut.ensures.budget c.cut.ensures.fulls
+
+pub returns-clause-store : goal.returns-clause-store
+returns-clause-store c = subst (λ (s : Seen). IsStore s) (sym (returns-clause-reverted c)) c.requires.moment.store

@@ -1,0 +1,67 @@
+use Rattle.std.proofs.Common.{◌≡◌, ◌+◌, List, [], ◌∷◌, ◌++◌, length, take, ap, ◌∙◌, arith, rules}
+use Rattle.std.proofs.lemmas.Grind.{common_steps}
+use Rattle.cb_dd.proofs.Children.{bottom_child, top_child}
+use Rattle.cb_ops.proofs.Ite.{literal-is}
+use Rattle.cb_elim.specs.Store.{Seen}
+use Rattle.cb_elim.proofs.Inside.{seen}
+use Rattle.cb_elim.proofs.Views.{store-grown}
+use Rattle.cb_elim.proofs.Back.{keeps-nodes}
+use Rattle.cb_elim.proofs.Slots.{variable-store, variable-range, variable-arguments, variable-new, store-cut}
+use Rattle.cb_elim.proofs.Store.variable.Goals as goal
+
+pub node-requires-clause-lo_child : goal.node-requires-clause-lo_child
+node-requires-clause-lo_child c = bottom_child _ _ (let e = ap (λ (s : Seen). s.drawn) c.self.view_is in let h = c.requires.level in omega arith)
+
+pub node-requires-clause-hi_child : goal.node-requires-clause-hi_child
+node-requires-clause-hi_child c = top_child _ _ (let e = ap (λ (s : Seen). s.drawn) c.self.view_is in let h = c.requires.level in omega arith)
+
+pub returns-in_err-node-clause-moments : goal.returns-in_err-node-clause-moments
+returns-in_err-node-clause-moments c = keeps-nodes c.args.self.now (seen c.self.inside) c.node.new.self c.self.view_is c.node.ensures.grows
+
+pub returns-in_err-node-clause-store : goal.returns-in_err-node-clause-store
+returns-in_err-node-clause-store c = store-grown c.args.self.now (seen c.self.inside) c.self.view_is c.requires.store c.node.new.self c.node.ensures.grows
+
+pub returns-then-is_err-clause-store : goal.returns-then-is_err-clause-store
+returns-then-is_err-clause-store c =
+    let slots : c.push.new.self.items ≡ c.self.inside.slots.items = grind (arith, common_steps) in
+    store-cut c.args.self.now (seen c.self.inside) c.self.view_is c.requires.store c.node.new.self c.cut.new.self c.node.ensures.grows
+    (c.cut.ensures.triples ∙ ap (λ n. take n c.node.new.self.triples) c.mark-before.ensures) c.cut.ensures.budget c.self.inside.free.items (λ i. c.self.inside.free.items) c.push.new.self.items slots
+
+pub returns-then-is_err-2-clause-store : goal.returns-then-is_err-2-clause-store
+returns-then-is_err-2-clause-store c =
+    let slots : c.truncate.new.self.items ≡ c.self.inside.slots.items = grind (arith, common_steps) in
+    let free : c.push-2.new.self.items ≡ c.self.inside.free.items = grind (arith, common_steps) in
+    store-cut c.args.self.now (seen c.self.inside) c.self.view_is c.requires.store c.node.new.self c.cut-then-is_err-2.new.self c.node.ensures.grows
+    (c.cut-then-is_err-2.ensures.triples ∙ ap (λ n. take n c.node.new.self.triples) c.mark-before.ensures) c.cut-then-is_err-2.ensures.budget c.push-2.new.self.items free c.truncate.new.self.items slots
+
+pub returns-clause-slot : goal.returns-clause-slot
+returns-clause-slot c =
+    let at : c.len-slot.result ≡ length c.self.inside.slots.items = search rules in
+    let slots : c.push.new.self.items ≡ c.self.inside.slots.items ++ c.in_ok-node.node ∷ [] = grind (arith, common_steps) in
+    let free : c.push-2.new.self.items ≡ c.self.inside.free.items ++ record { level = c.self.inside.drawn; slot = c.len-slot.result } ∷ [] = grind (arith, common_steps) in
+    variable-new c.args.self.now (seen c.self.inside) c.self.view_is c.requires.store c.node.new.self c.node.ensures.grows c.in_ok-node.node c.in_ok-node.ensures.is_node
+    (record { at = λ p. c.in_ok-node.ensures.function p ∙ literal-is c.self.inside.ops.triples (p c.self.inside.drawn) p }) c.len-slot.result at c.push-2.new.self.items free c.push.new.self.items slots
+
+pub returns-clause-range : goal.returns-clause-range
+returns-clause-range c =
+    let at : c.len-slot.result ≡ length c.self.inside.slots.items = search rules in
+    let slots : c.push.new.self.items ≡ c.self.inside.slots.items ++ c.in_ok-node.node ∷ [] = grind (arith, common_steps) in
+    let free : c.push-2.new.self.items ≡ c.self.inside.free.items ++ record { level = c.self.inside.drawn; slot = c.len-slot.result } ∷ [] = grind (arith, common_steps) in
+    variable-range c.args.self.now (seen c.self.inside) c.self.view_is c.requires.store c.node.new.self c.node.ensures.grows c.in_ok-node.node c.in_ok-node.ensures.is_node
+    (record { at = λ p. c.in_ok-node.ensures.function p ∙ literal-is c.self.inside.ops.triples (p c.self.inside.drawn) p }) c.len-slot.result at c.push-2.new.self.items free c.push.new.self.items slots
+
+pub returns-clause-arguments : goal.returns-clause-arguments
+returns-clause-arguments c =
+    let at : c.len-slot.result ≡ length c.self.inside.slots.items = search rules in
+    let slots : c.push.new.self.items ≡ c.self.inside.slots.items ++ c.in_ok-node.node ∷ [] = grind (arith, common_steps) in
+    let free : c.push-2.new.self.items ≡ c.self.inside.free.items ++ record { level = c.self.inside.drawn; slot = c.len-slot.result } ∷ [] = grind (arith, common_steps) in
+    variable-arguments c.args.self.now (seen c.self.inside) c.self.view_is c.requires.store c.node.new.self c.node.ensures.grows c.in_ok-node.node c.in_ok-node.ensures.is_node
+    (record { at = λ p. c.in_ok-node.ensures.function p ∙ literal-is c.self.inside.ops.triples (p c.self.inside.drawn) p }) c.len-slot.result at c.push-2.new.self.items free c.push.new.self.items slots
+
+pub returns-clause-store : goal.returns-clause-store
+returns-clause-store c =
+    let at : c.len-slot.result ≡ length c.self.inside.slots.items = search rules in
+    let slots : c.push.new.self.items ≡ c.self.inside.slots.items ++ c.in_ok-node.node ∷ [] = grind (arith, common_steps) in
+    let free : c.push-2.new.self.items ≡ c.self.inside.free.items ++ record { level = c.self.inside.drawn; slot = c.len-slot.result } ∷ [] = grind (arith, common_steps) in
+    variable-store c.args.self.now (seen c.self.inside) c.self.view_is c.requires.store c.node.new.self c.node.ensures.grows c.in_ok-node.node c.in_ok-node.ensures.is_node
+    (record { at = λ p. c.in_ok-node.ensures.function p ∙ literal-is c.self.inside.ops.triples (p c.self.inside.drawn) p }) c.len-slot.result at c.push-2.new.self.items free c.push.new.self.items slots

@@ -1,0 +1,17 @@
+use Rattle.cb_ops.proofs.Ite.{Grows-then, Grows-same}
+use Rattle.cb_elim.proofs.Views.{there-still}
+use Rattle.cb_elim.proofs.General.{none-at, general-at}
+use Rattle.cb_elim.proofs.equation.most_general.Goals as goal
+
+pub returns-in_default-found-clause-none : goal.returns-in_default-found-clause-none
+returns-in_default-found-clause-none c =
+    none-at c.args.ops.now c.xor.new.self c.xor.new.self c.xor.new.self c.xor.ensures.grows (Grows-same c.xor.new.self) c.args.constants c.args.slots.now c.requires.slots c.args.f.0 c.args.g.0 c.in_ok-equation.equation.0 c.in_ok-equation.ensures.function
+    c.in-Ok.levels.items c.in-Ok.ensures (rw c.deref.ensures.value at (rw c.in_default-found.is at c.in_ok-found.ensures.none))
+
+pub moved-requires-clause-slots : goal.moved-requires-clause-slots
+moved-requires-clause-slots c = there-still c.args.ops.now c.solution.new.ops (Grows-then c.args.ops.now c.xor.new.self c.solution.new.ops c.xor.ensures.grows c.solution.ensures.grows) c.args.slots.now c.requires.slots
+
+pub returns-clause-found : goal.returns-clause-found
+returns-clause-found c =
+    general-at c.args.ops.now c.xor.new.self c.solution.new.ops c.moved.new.ops c.xor.ensures.grows c.solution.ensures.grows c.args.constants c.args.slots.now c.requires.slots c.args.f.0 c.args.g.0 c.in_ok-equation.equation.0 c.in_ok-equation.ensures.function
+    c.in-Ok.levels.items c.in-Ok.ensures c.in-Some.images.items (rw c.deref.ensures.value at (rw c.in-Some.is at c.in_ok-found.ensures.solved)) c.in_ok-values.values.items (rw c.deref-2.ensures.value at c.in_ok-values.ensures.values)

@@ -1,0 +1,44 @@
+-- The most general solution of an equation, by functions.
+use Rattle.std.specs.Prelude.{◌≡◌, ◌⊎◌, ℕ, ◌<◌, ◌≤◌, Bool, true, false, List, length}
+use Rattle.cb_model.specs.Bits.{Bits, put, xor}
+use Rattle.cb_dd.specs.declared.Triple.{Triple}
+use Rattle.cb_dd.specs.declared.Node.{Node}
+use Rattle.cb_dd.specs.Diagram.{function_of}
+use Rattle.cb_ops.specs.Support.{IsListed}
+use Rattle.cb_ops.specs.Substitute.{Images, substituted}
+use Rattle.cb_boole.specs.Elimination.{Function, DependsOnly, rest, solved}
+use Rattle.cb_solution.specs.Solution.{IsFalling}
+use Rattle.cb_elim.specs.Store.{AreThere, value_in}
+
+-- where two nodes differ
+abbrev pub differ : List Triple → ℕ → ℕ → Function
+differ ts f g = λ p. xor (function_of ts f p) (function_of ts g p)
+
+-- the levels on which the function depends, but for the constants, the greatest first
+pub record IsElimination (constants : ℕ) (f : Function) (levels : List ℕ) : Type 0 where
+  pub falls : IsFalling levels
+  pub free : (l : ℕ) → IsListed levels l → constants ≤ l
+  pub needed : (l : ℕ) → IsListed levels l → ((p : Bits) (b : Bool) → f (put l b p) ≡ f p) → ⊥
+  pub whole : DependsOnly (λ l. (l < constants) ⊎ IsListed levels l) f
+
+-- each value is the old one with the images put in
+pub record AreMoved (old new : List Triple) (images : Images) (ns vs : List Node) : Type 0 where
+  pub there : AreThere new vs
+  pub number : length vs ≡ length ns
+  pub at : (x : ℕ) (p : Bits) → value_in new vs x p ≡ value_in old ns x (substituted old images p)
+
+-- each value is the old one at the most general solution of f = g
+pub record IsGeneral (old new : List Triple) (constants : ℕ) (ns : List Node) (f g : ℕ) (vs : List Node) : Type 0 where
+  pub levels : List ℕ
+  pub elimination : IsElimination constants (differ old f g) levels
+  pub none_left : (p : Bits) → rest levels (differ old f g) p ≡ false
+  pub there : AreThere new vs
+  pub number : length vs ≡ length ns
+  pub at : (x : ℕ) (p : Bits) → value_in new vs x p ≡ value_in old ns x (solved levels (differ old f g) p)
+
+-- elimination leaves something somewhere
+pub record HasNoSolution (ts : List Triple) (constants f g : ℕ) : Type 0 where
+  pub levels : List ℕ
+  pub elimination : IsElimination constants (differ ts f g) levels
+  pub at : Bits
+  pub left : rest levels (differ ts f g) at ≡ true

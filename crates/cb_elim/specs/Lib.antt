@@ -1,0 +1,4 @@
+pub mod Store
+pub mod Moments
+pub mod Equation
+pub mod Unified

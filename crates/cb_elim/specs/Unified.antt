@@ -1,0 +1,44 @@
+-- What an equation makes of a store.
+use Rattle.std.specs.Prelude.{◌≡◌, ◌≢◌, ◌↔◌, ℕ, Bool, List, ◌++◌, length, slice_get, Some}
+use Rattle.cb_model.specs.Bits.{Bits, Each}
+use Rattle.cb_model.specs.Equations.{Table}
+use Rattle.cb_dd.specs.declared.Node.{Node}
+use Rattle.cb_dd.specs.Diagram.{function_of}
+use Rattle.cb_ops.specs.Ops.{Grows}
+use Rattle.cb_boole.specs.Elimination.{Function}
+use Rattle.cb_boole.specs.View.{View, InRange, point}
+use Rattle.cb_elim.specs.declared.Change.{Change}
+use Rattle.cb_elim.specs.Store.{Seen}
+use Rattle.cb_elim.specs.Moments.{undone}
+
+-- The new range is what is left of the old one where the two functions agree, each free level having the bit of its
+-- variable; and something is left at every assignment.
+pub record IsSolved (S S' : View) (f g : Function) : Type 0 where
+  pub left : (a b : Bits) → InRange S' a b ↔ (InRange S a b × (f (point S.stands a b) ≡ g (point S.stands a b)))
+  pub some : (a : Bits) → (b : Bits) × InRange S' a b
+
+-- at some assignment no pair of the range makes the two functions agree
+pub record HasNone (S : View) (f g : Function) : Type 0 where
+  pub at : Bits
+  pub none : (b : Bits) → InRange S at b → f (point S.stands at b) ≡ g (point S.stands at b) → ⊥
+
+-- values of slots were rewritten, nodes were added, and nothing else
+pub record OnlyValues (old new : Seen) : Type 0 where
+  pub constants : new.constants ≡ old.constants
+  pub drawn : new.drawn ≡ old.drawn
+  pub free : new.free ≡ old.free
+  pub number : length new.slots ≡ length old.slots
+  pub changes : List Change
+  pub trail : new.trail ≡ old.trail ++ changes
+  pub slots : undone changes new.slots ≡ old.slots
+  pub nodes : Grows old.nodes new.nodes
+
+-- giving each free level the bit of its variable gives each pair of the range back: Boole's solution in its reproductive form
+abbrev pub IsReproductive : View → Type 0
+IsReproductive S = (a b : Bits) → InRange S a b → (x : ℕ) → S.IsVariable x → S.values x (point S.stands a b) ≡ b x
+
+-- A solution in the algebra, over any longer list of constants, is an instance of the slots' values: each free level is
+-- given the table of its variable.
+abbrev pub IsMostGeneral : View → Type 0
+IsMostGeneral S = (short : Bits → Bits) (table : ℕ → Table) → ((a : Bits) → InRange S (short a) (λ x. table x a)) →
+    (x : ℕ) → S.IsVariable x → (a : Bits) → S.values x (point S.stands (short a) (λ y. table y a)) ≡ table x a

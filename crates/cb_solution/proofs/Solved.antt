@@ -1,0 +1,288 @@
+-- The solution, one level after another.
+use Rattle.std.proofs.Common.{◌≡◌, ◌≢◌, ◌⊎◌, inl, inr, ℕ, zero, suc, ◌+◌, ◌*◌, ◌<◌, ◌≤◌, ◌^◌, Bool, true, false, ◌&&◌, ◌||◌, List, [], ◌∷◌, ◌++◌, length, map, nat_eq, get_or, take, drop, ◌-◌, Option, Some, None, if◌then◌else◌, refl, sym, ap, ap₂, subst, ◌∙◌, arith, length-append}
+use Rattle.std.proofs.lemmas.Bool.{cases_Bool, cases_eq, cases_lt, eq-eqb, eqb-true, eqb-false, ne_eqb, true≢false}
+use Rattle.std.proofs.lemmas.Nat.{pow_pos}
+use Rattle.std.proofs.lemmas.List.{map-append, get_or_append_left}
+use Rattle.std.proofs.lemmas.List.Folds.{list_any-append}
+use Rattle.std.proofs.lemmas.Option.{same_Some}
+use Rattle.std.proofs.Math.Seq.{get_or-append_seam, take-length}
+use Rattle.std.proofs.Math.Path.{fun_ext}
+use Rattle.std.proofs.Math.Nat.{mul-le-mul_left}
+use Rattle.std.specs.List.{list_any}
+use Rattle.std.specs.List.Sorted.{IsStrictlyIncreasing}
+use Rattle.std.specs.Option.{option_map_or}
+use Rattle.cb_model.specs.Bits.{Bits, put, xor}
+use Rattle.cb_dd.specs.declared.Triple.{Triple}
+use Rattle.cb_dd.specs.declared.Node.{Node}
+use Rattle.cb_dd.specs.Diagram.{Store, IsDiagram, IsNode, function_of}
+use Rattle.cb_dd.proofs.Diagrams.{function_of-zero, function_of-one, kind_of, Kind, bottom, top, inner, node-within, function_of-lo, function_of-hi}
+use Rattle.cb_ops.specs.Ops.{Grows, StandsFor, Room, DependsOn, Agree}
+use Rattle.cb_ops.specs.Support.{IsListed}
+use Rattle.cb_ops.specs.Substitute.{Images, AreNodes, substituted, image_of}
+use Rattle.cb_ops.proofs.Ite.{grown-function, grown-depends, grown-node, Grows-then, put-same, put-other}
+use Rattle.cb_ops.proofs.Gather.{agree-at}
+use Rattle.cb_ops.proofs.Substitute.{substituted-grown, image-node, grown-nodes}
+use Rattle.cb_boole.specs.Elimination.{Function, both, mended, rest, solved, DependsOnly}
+use Rattle.cb_boole.proofs.Only.{both_only, solved_alike}
+use Rattle.cb_solution.specs.Solution.{IsFalling, IsImage, IsSolution, HasRest, ImagesWithin, ImageRoom, SolutionRoom}
+
+-- ---- lists of levels
+
+or-true : (b : Bool) → b || true ≡ true
+or-true true = refl
+or-true false = refl
+
+or-false : (b : Bool) → b || false ≡ b
+or-false true = refl
+or-false false = refl
+
+pub listed-here : (l : ℕ) (ls : List ℕ) → IsListed (l ∷ ls) l
+listed-here l ls = ap (λ b. b || list_any (nat_eq l) ls) (eq-eqb l l refl)
+
+pub listed-there : (l k : ℕ) (ls : List ℕ) → IsListed ls k → IsListed (l ∷ ls) k
+listed-there l k ls h = ap (λ b. nat_eq k l || b) h ∙ or-true (nat_eq k l)
+
+-- a listed level is the first, or listed among the others
+pub listed-cases : (l k : ℕ) (ls : List ℕ) → IsListed (l ∷ ls) k → (k ≡ l) ⊎ IsListed ls k
+listed-cases l k ls h = elim (cases_Bool (nat_eq k l)) [
+  | inl same ↦ inl (eqb-true k l same)
+  | inr other ↦ inr (sym (ap (λ b. b || list_any (nat_eq k) ls) other) ∙ h)
+]
+
+listed-at : (xs : List ℕ) (k : ℕ) → k < length xs → IsListed xs (get_or xs k 0)
+listed-at [] k h = absurd (omega arith)
+listed-at (x ∷ xs) zero h = listed-here x xs
+listed-at (x ∷ xs) (suc k) h = listed-there x (get_or xs k 0) xs (listed-at xs k (omega arith))
+
+listed-append : (xs ys : List ℕ) (k : ℕ) → IsListed (xs ++ ys) k → IsListed xs k ⊎ IsListed ys k
+listed-append xs ys k h = elim (cases_Bool (list_any (nat_eq k) xs)) [
+  | inl there ↦ inl there
+  | inr not_there ↦ inr (sym (ap (λ b. b || list_any (nat_eq k) ys) not_there) ∙ sym (list_any-append (nat_eq k) xs ys) ∙ h)
+]
+
+-- a greater number at the end
+pub rising-more : (xs : List ℕ) (l : ℕ) → IsStrictlyIncreasing xs → ((k : ℕ) → IsListed xs k → k < l) → IsStrictlyIncreasing (xs ++ l ∷ [])
+rising-more xs l rise below k h = elim (cases_lt (k + 1) (length xs)) [
+  | inl less ↦
+      let e : get_or (xs ++ l ∷ []) k 0 ≡ get_or xs k 0 = get_or_append_left xs (l ∷ []) 0 k (omega arith) in
+      let d : get_or (xs ++ l ∷ []) (k + 1) 0 ≡ get_or xs (k + 1) 0 = get_or_append_left xs (l ∷ []) 0 (k + 1) less in
+      let r : get_or xs k 0 < get_or xs (k + 1) 0 = rise k less in
+      omega arith
+  | inr more ↦
+      let n : k + 1 ≡ length xs = omega (arith, length-append xs (l ∷ [])) in
+      let e : get_or (xs ++ l ∷ []) k 0 ≡ get_or xs k 0 = get_or_append_left xs (l ∷ []) 0 k (omega arith) in
+      let d : get_or (xs ++ l ∷ []) (k + 1) 0 ≡ l = ap (λ j. get_or (xs ++ l ∷ []) j 0) n ∙ get_or-append_seam xs l [] 0 in
+      let r : get_or xs k 0 < l = below (get_or xs k 0) (listed-at xs k (omega arith)) in
+      omega arith
+]
+
+agree-from : (ks : List ℕ) (p q : Bits) → ((l : ℕ) → IsListed ks l → p l ≡ q l) → Agree ks p q
+agree-from [] p q h = tt
+agree-from (k ∷ ks) p q h = (h k (listed-here k ks), agree-from ks p q (λ l there. h l (listed-there k l ks there)))
+
+-- that a node depends on the levels of a list alone, said of its function
+pub only-from : (ts : List Triple) (n : ℕ) (ls : List ℕ) → DependsOn ts n ls → DependsOnly (IsListed ls) (function_of ts n)
+only-from ts n ls d p q h = d.agrees p q (agree-from ls p q h)
+
+pub only-into : (ts : List Triple) (n : ℕ) (ls : List ℕ) (f : Function) → StandsFor ts n f → DependsOnly (IsListed ls) f → DependsOn ts n ls
+only-into ts n ls f is only = record { agrees = λ a b h. is.at a ∙ only a b (λ l there. agree-at ls a b h l there) ∙ sym (is.at b) }
+
+-- ---- a node other than 0 is 1 somewhere
+
+module _ (ts : List Triple) (is : IsDiagram ts) where
+  somewhere : (fuel n : ℕ) → n < fuel → IsNode ts n → (n ≡ 0 → ⊥) → (a : Bits) × (function_of ts n a ≡ true)
+  somewhere zero n h w some = absurd (omega arith)
+  somewhere (suc fuel) n h w some = elim (kind_of ts n w) [
+    | bottom e ↦ absurd (some e)
+    | top e ↦ ((λ l. false), ap (λ m. function_of ts m (λ l. false)) e ∙ function_of-one ts (λ l. false))
+    | inner k t e at ↦
+        let o = is.ordered k t at in
+        let v = node-within ts is k t at in
+        elim (cases_eq t.lo 0) [
+          | inl z ↦
+              let nz : t.hi ≡ 0 → ⊥ = λ (y : t.hi ≡ 0). o.differ (z ∙ sym y) in
+              let hi_less : t.hi < k + 2 = o.hi in
+              let r = somewhere fuel t.hi (omega arith) v.2 nz in
+              (put t.level true r.0, ap (λ m. function_of ts m (put t.level true r.0)) e ∙ function_of-hi ts is k t at r.0 ∙ r.1)
+          | inr nz ↦
+              let lo_less : t.lo < k + 2 = o.lo in
+              let r = somewhere fuel t.lo (omega arith) v.1 nz in
+              (put t.level false r.0, ap (λ m. function_of ts m (put t.level false r.0)) e ∙ function_of-lo ts is k t at r.0 ∙ r.1)
+        ]
+  ]
+
+  pub rest-somewhere : (f : ℕ) → IsNode ts f → (f ≡ 0 → ⊥) → HasRest ts f []
+  unfolding rest
+  rest-somewhere f w some = let r = somewhere (suc f) f (omega arith) w some in record { at = r.0; left = r.1 }
+
+-- ---- the images at an assignment
+
+cases-image : (o : Option Node) → ((m : Node) × (o ≡ Some m)) ⊎ (o ≡ None)
+cases-image (Some m) = inl (m, refl)
+cases-image None = inr refl
+
+at-some : (ts : List Triple) (list : Images) (a : Bits) (l : ℕ) (m : Node) → image_of list l ≡ Some m → substituted ts list a l ≡ function_of ts m.0 a
+at-some ts list a l m e = ap (λ o. option_map_or (λ n. function_of ts n.0 a) o (a l)) e
+
+at-none : (ts : List Triple) (list : Images) (a : Bits) (l : ℕ) → image_of list l ≡ None → substituted ts list a l ≡ a l
+at-none ts list a l e = ap (λ o. option_map_or (λ n. function_of ts n.0 a) o (a l)) e
+
+-- ---- no level
+
+pub solution-none : (ts : List Triple) (f : ℕ) → f ≡ 0 → IsSolution ts ts f [] []
+unfolding rest solved
+solution-none ts f z = record {
+  rise = λ k h. absurd (omega arith);
+  within = λ l h. h;
+  nodes = tt;
+  at = λ p. refl;
+  none_left = λ p. ap (λ n. function_of ts n p) z ∙ function_of-zero ts p;
+}
+
+-- ---- one level more
+
+image-first : (xs : Images) (l : ℕ) (n : Node) (k : ℕ) (m : Node) → image_of xs k ≡ Some m → image_of (xs ++ (l, n) ∷ []) k ≡ Some m
+image-first [] l n k m e = absurd (let d : None ≡ Some m = e in cc)
+image-first (x ∷ xs) l n k m e = elim (cases_Bool (nat_eq k x.0)) [
+  | inl same ↦
+      let d : Some x.1 ≡ Some m = sym (ap (λ b. if b then Some x.1 else image_of xs k) same) ∙ e in
+      ap (λ b. if b then Some x.1 else image_of (xs ++ (l, n) ∷ []) k) same ∙ d
+  | inr other ↦
+      ap (λ b. if b then Some x.1 else image_of (xs ++ (l, n) ∷ []) k) other ∙ image-first xs l n k m (sym (ap (λ b. if b then Some x.1 else image_of xs k) other) ∙ e)
+]
+
+image-last : (xs : Images) (l : ℕ) (n : Node) (k : ℕ) → image_of xs k ≡ None → image_of (xs ++ (l, n) ∷ []) k ≡ (if nat_eq k l then Some n else None)
+image-last [] l n k e = refl
+image-last (x ∷ xs) l n k e = elim (cases_Bool (nat_eq k x.0)) [
+  | inl same ↦ absurd (let d : Some x.1 ≡ None = sym (ap (λ b. if b then Some x.1 else image_of xs k) same) ∙ e in cc)
+  | inr other ↦
+      ap (λ b. if b then Some x.1 else image_of (xs ++ (l, n) ∷ []) k) other ∙ image-last xs l n k (sym (ap (λ b. if b then Some x.1 else image_of xs k) other) ∙ e)
+]
+
+-- a level with an image is among the images' levels
+image-listed : (xs : Images) (k : ℕ) (m : Node) → image_of xs k ≡ Some m → IsListed (map (λ i. i.0) xs) k
+image-listed [] k m e = absurd (let d : None ≡ Some m = e in cc)
+image-listed (x ∷ xs) k m e = elim (cases_Bool (nat_eq k x.0)) [
+  | inl same ↦ ap (λ b. b || list_any (nat_eq k) (map (λ i. i.0) xs)) same
+  | inr other ↦ listed-there x.0 k (map (λ i. i.0) xs) (image-listed xs k m (sym (ap (λ b. if b then Some x.1 else image_of xs k) other) ∙ e))
+]
+
+nodes-more : (ts : List Triple) (xs : Images) (l : ℕ) (n : Node) → AreNodes ts xs → IsNode ts n.0 → AreNodes ts (xs ++ (l, n) ∷ [])
+nodes-more ts [] l n h w = (w, tt)
+nodes-more ts (x ∷ xs) l n h w = (h.0, nodes-more ts xs l n h.1 w)
+
+module _ (s t u v : Store) (st : Grows s t) (tu : Grows t u) (uv : Grows u v) (f left level : ℕ) (lower : List ℕ) (wf : IsNode s.triples f) (wl : IsNode t.triples left)
+    (is_left : StandsFor t.triples left (both level (function_of s.triples f))) where
+
+  left-function : function_of t.triples left ≡ both level (function_of s.triples f)
+  left-function = fun_ext (λ p. is_left.at p)
+
+  pub rest-more : HasRest t.triples left lower → HasRest s.triples f (level ∷ lower)
+  unfolding rest
+  rest-more r = record { at = r.at; left = ap (λ g. rest lower g r.at) (sym left-function) ∙ r.left }
+
+  left-depends : (ls : List ℕ) → DependsOn s.triples f ls → DependsOn t.triples left ls
+  left-depends ls d = only-into t.triples left ls (both level (function_of s.triples f)) is_left (both_only (IsListed ls) level (function_of s.triples f) (only-from s.triples f ls d))
+
+  -- the nodes of the first level and of those that follow
+  pub room-second : Room (f ∷ []) 3 s t → SolutionRoom left lower t u → SolutionRoom f (level ∷ lower) s u
+  room-second first second = record {
+    most = λ ls d all.
+        let m = first.most ls (d, tt) in
+        let n = second.most ls (left-depends ls d) (λ l there. all l (listed-there level l lower there)) in
+        omega arith;
+  }
+
+  module _ (falls : IsFalling (level ∷ lower)) (images : Images) (found : IsSolution t.triples u.triples left lower images) where
+    images-within : (ls : List ℕ) → DependsOn s.triples f ls → ((l : ℕ) → IsListed (level ∷ lower) l → IsListed ls l) → ImagesWithin u.triples images ls
+    images-within ls d all = record {
+      each = λ l m e. only-into u.triples m.0 ls (λ p. solved lower (function_of t.triples left) p l)
+          (record { at = λ p. sym (at-some u.triples images p l m e) ∙ ap (λ (q : Bits). q l) (found.at p) })
+          (λ p q h. solved_alike (IsListed ls) lower (function_of t.triples left) (only-from t.triples left ls (left-depends ls d)) p q h l
+            (all l (listed-there level l lower (found.within l (image-listed images l m e)))));
+    }
+
+    pub room-third : Room (f ∷ []) 3 s t → SolutionRoom left lower t u → ImageRoom f level images u v → SolutionRoom f (level ∷ lower) s v
+    room-third first second third = record {
+      most = λ ls d all.
+          let m = first.most ls (d, tt) in
+          let n = second.most ls (left-depends ls d) (λ l there. all l (listed-there level l lower there)) in
+          let o = third.most ls (grown-depends s u (Grows-then s t u st tu) f ls wf d) (all level (listed-here level lower)) (images-within ls d all) in
+          omega arith;
+    }
+
+    pub nodes-rise : IsStrictlyIncreasing (map (λ i. i.0) images)
+    nodes-rise = found.rise
+
+    -- the level has no image yet
+    fresh : image_of images level ≡ None
+    fresh = elim (cases-image (image_of images level)) [
+      | inl h ↦ absurd (let w : level < level = falls.0 level (found.within level (image-listed images level h.0 h.1)) in omega arith)
+      | inr e ↦ e
+    ]
+
+    module _ (node : Node) (wn : IsNode v.triples node.0) (is_node : IsImage u.triples v.triples f level images node.0) where
+      image-value : (p : Bits) → function_of v.triples node.0 p ≡ xor (function_of s.triples f (substituted u.triples images p)) (substituted u.triples images p level)
+      image-value p = is_node.at p ∙ ap (λ b. xor b (substituted u.triples images p level)) (grown-function s u (Grows-then s t u st tu) f wf (substituted u.triples images p))
+
+      put-in : (p : Bits) (k : ℕ) → (k ≡ level) ⊎ (k ≡ level → ⊥) →
+        substituted v.triples (images ++ (level, node) ∷ []) p k ≡ put level (xor (function_of s.triples f (substituted u.triples images p)) (substituted u.triples images p level)) (substituted u.triples images p) k
+      put-in p k (inl same) =
+          at-some v.triples (images ++ (level, node) ∷ []) p k node
+            (image-last images level node k (ap (image_of images) same ∙ fresh) ∙ ap (λ b. if b then Some node else None) (eq-eqb k level same))
+          ∙ image-value p
+          ∙ sym (put-same (substituted u.triples images p) level k (xor (function_of s.triples f (substituted u.triples images p)) (substituted u.triples images p level)) same)
+      put-in p k (inr other) = elim (cases-image (image_of images k)) [
+        | inl h ↦
+            at-some v.triples (images ++ (level, node) ∷ []) p k h.0 (image-first images level node k h.0 h.1)
+            ∙ grown-function u v uv h.0.0 (image-node u.triples images k h.0 found.nodes h.1) p
+            ∙ sym (at-some u.triples images p k h.0 h.1)
+            ∙ sym (put-other (substituted u.triples images p) level (xor (function_of s.triples f (substituted u.triples images p)) (substituted u.triples images p level)) k other)
+        | inr e ↦
+            at-none v.triples (images ++ (level, node) ∷ []) p k (image-last images level node k e ∙ ap (λ b. if b then Some node else None) (ne_eqb k level other))
+            ∙ sym (at-none u.triples images p k e)
+            ∙ sym (put-other (substituted u.triples images p) level (xor (function_of s.triples f (substituted u.triples images p)) (substituted u.triples images p level)) k other)
+      ]
+
+      pub solution-more : IsSolution s.triples v.triples f (level ∷ lower) (images ++ (level, node) ∷ [])
+      unfolding rest solved mended
+      solution-more = record {
+        rise = subst IsStrictlyIncreasing (sym (map-append (λ i. i.0) images ((level, node) ∷ [])))
+          (rising-more (map (λ i. i.0) images) level found.rise (λ k there. falls.0 k (found.within k there)));
+        within = λ l there. within l (listed-append (map (λ i. i.0) images) (level ∷ []) l (subst (λ xs. IsListed xs l) (map-append (λ i. i.0) images ((level, node) ∷ [])) there));
+        nodes = nodes-more v.triples images level node (grown-nodes u v uv images found.nodes) wn;
+        at = λ p.
+            fun_ext (λ k. put-in p k (cases_eq k level))
+            ∙ ap (λ (q : Bits). put level (xor (function_of s.triples f q) (q level)) q) (found.at p ∙ ap (λ g. solved lower g p) left-function);
+        none_left = λ p. ap (λ g. rest lower g p) (sym left-function) ∙ found.none_left p;
+      }
+        where
+          within : (l : ℕ) → IsListed (map (λ i. i.0) images) l ⊎ IsListed (level ∷ []) l → IsListed (level ∷ lower) l
+          within l (inl there) = listed-there level l lower (found.within l there)
+          within l (inr here) = elim (listed-cases level l [] here) [
+            | inl same ↦ subst (λ k. IsListed (level ∷ lower) k) (sym same) (listed-here level lower)
+            | inr none ↦ absurd (true≢false (sym none))
+          ]
+
+pub room-first : (s t : Store) (f level : ℕ) (lower : List ℕ) → Room (f ∷ []) 3 s t → SolutionRoom f (level ∷ lower) s t
+room-first s t f level lower first = record {
+  most = λ ls d all. let m = first.most ls (d, tt) in omega arith;
+}
+
+pub room-none : (s : Store) (f : ℕ) → SolutionRoom f [] s s
+room-none s f = record { most = λ ls d all. omega arith }
+
+-- ---- lists of levels as the code takes them apart
+
+pub whole : (ls : List ℕ) → 1 ≤ length ls → get_or ls 0 0 ∷ take (length ls - 1) (drop 1 ls) ≡ ls
+whole [] h = absurd (omega arith)
+whole (l ∷ ls) h =
+    let n : length (l ∷ ls) - 1 ≡ length ls = omega arith in
+    ap (λ k. l ∷ take k ls) n ∙ ap (λ xs. l ∷ xs) (take-length ls)
+
+pub no-levels : (ls : List ℕ) → length ls < 1 → [] ≡ ls
+no-levels [] h = refl
+no-levels (l ∷ ls) h = absurd (omega arith)
+
+pub falls-whole : (ls : List ℕ) → 1 ≤ length ls → IsFalling ls → IsFalling (get_or ls 0 0 ∷ take (length ls - 1) (drop 1 ls))
+falls-whole ls h f = subst IsFalling (sym (whole ls h)) f
