@@ -1,11 +1,9 @@
 -- All levels of one equation, one after another.
-use Rattle.std.proofs.Common.{◌≡◌, ◌≢◌, ◌⊎◌, inl, inr, ℕ, Bool, true, false, not, ◌&&◌, ◌||◌, List, [], ◌∷◌, refl, sym, ap, ◌∙◌, subst, Contains}
-use Rattle.std.proofs.lemmas.Bool.{cases_eq, true_from_ne_false, true≢false}
-use Rattle.std.proofs.Math.Path.{fun_ext}
-use Rattle.cb_model.specs.Bits.{Bits, put, xor}
+use Rattle.std.proofs.Common.{◌≡◌, ℕ, true, false, List, [], ◌∷◌, refl, sym, ap, ◌∙◌}
+use Rattle.std.proofs.lemmas.Bool.{true_from_ne_false, true≢false}
+use Rattle.cb_model.specs.Bits.{Bits}
 use Rattle.cb_boole.specs.Elimination.{IsAway, Function, both, mended, rest, solved}
-use Rattle.cb_boole.proofs.Point.{put_same, put_other, put_own, put_again, put_ext}
-use Rattle.cb_boole.proofs.One.{mended_sound, mended_keeps, mended_off, both_false, both_true}
+use Rattle.cb_boole.proofs.One.{mended_sound, mended_keeps, mended_off, both_false}
 
 pub solved_sound : (ls : List ℕ) (f : Function) (p : Bits) → rest ls f p ≡ false → f (solved ls f p) ≡ false
 unfolding rest solved

@@ -1,8 +1,8 @@
 -- The laws, from the lemmas on one level and on all.
-use Rattle.std.proofs.Common.{◌≡◌, ℕ, Bool, true, false, List, sym, ap, ◌∙◌}
+use Rattle.std.proofs.Common.{◌≡◌, ℕ, List, sym, ap, ◌∙◌}
 use Rattle.cb_model.specs.Bits.{Bits}
 use Rattle.cb_boole.specs.Elimination.{Function, rest, solved, IsAway}
-use Rattle.cb_boole.specs.Laws.{SolutionIsSound, SolutionIsWhole, SolvableWhereRestIsZero, SolutionByCofactors, IsSolvedBy}
+use Rattle.cb_boole.specs.Laws.{SolutionIsSound, SolutionIsWhole, SolvableWhereRestIsZero, SolutionByCofactors}
 use Rattle.cb_boole.proofs.One.{mended_boole}
 use Rattle.cb_boole.proofs.Chain.{solved_sound, solved_keeps, solved_off, rest_false}
 use Rattle.cb_boole.proofs.Only.{rest_drops}

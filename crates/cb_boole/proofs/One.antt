@@ -1,9 +1,9 @@
 -- One level: Boole's solution, in the form that turns the bit where it is wrong.
-use Rattle.std.proofs.Common.{◌≡◌, ◌≢◌, ℕ, Bool, true, false, not, ◌&&◌, ◌||◌, refl, sym, ap, ◌∙◌, subst, cond}
+use Rattle.std.proofs.Common.{◌≡◌, ◌≢◌, ℕ, Bool, true, false, not, ◌&&◌, ◌||◌, refl, sym, ap, ◌∙◌}
 use Rattle.std.proofs.lemmas.Bool.{and_left, and_right, and_parts}
 use Rattle.cb_model.specs.Bits.{Bits, put, xor}
 use Rattle.cb_boole.specs.Elimination.{Function, both, mended}
-use Rattle.cb_boole.proofs.Point.{put_same, put_other, put_own, put_again}
+use Rattle.cb_boole.proofs.Point.{put_same, put_other, put_own}
 
 and_first : (x y : Bool) → y ≡ true → x && y ≡ false → x ≡ false
 and_first false y h z = refl
@@ -33,7 +33,7 @@ turned true at true h z = and_first (at false) (at true) h z
 turned false at true h z = and_second (at false) (at true) h z
 
 boole : (x : Bool) (at : Bool → Bool) (v : Bool) → at x ≡ v → (at false && at true) ≡ false →
-  xor v x ≡ (at false || (not (at true) && x))
+    xor v x ≡ (at false || (not (at true) && x))
 boole true at v h z = boole_one (at false) (at true) v h z
 boole false at v h z = boole_zero (at false) (at true) v h
 
@@ -68,7 +68,7 @@ both_true l f p b h = all_true b (λ b. f (put l b p)) h
 
 -- Boole's own formula has the same value where there is a solution
 pub mended_boole : (l : ℕ) (f : Function) (p : Bits) → both l f p ≡ false →
-  mended l f p l ≡ (f (put l false p) || (not (f (put l true p)) && p l))
+    mended l f p l ≡ (f (put l false p) || (not (f (put l true p)) && p l))
 unfolding both mended
 mended_boole l f p z =
     put_same p l (xor (f p) (p l)) ∙ boole (p l) (λ b. f (put l b p)) (f p) (ap f (put_own p l)) z

@@ -1,5 +1,5 @@
 -- On which levels a function depends.
-use Rattle.std.proofs.Common.{◌≡◌, ◌≢◌, ◌⊎◌, inl, inr, ℕ, ◌<◌, Bool, true, false, not, ◌&&◌, List, [], ◌∷◌, refl, sym, ap, ap₂, ◌∙◌, subst}
+use Rattle.std.proofs.Common.{◌≡◌, ◌≢◌, ◌⊎◌, inl, inr, ℕ, ◌<◌, Bool, true, false, ◌&&◌, List, [], ◌∷◌, refl, sym, ap₂, ◌∙◌, subst}
 use Rattle.std.proofs.lemmas.Bool.{cases_eq}
 use Rattle.cb_model.specs.Bits.{Bits, put, xor}
 use Rattle.cb_boole.specs.Elimination.{Function, both, mended, rest, solved, DependsOnly, AreAlike}
@@ -7,7 +7,7 @@ use Rattle.cb_boole.proofs.Point.{put_same, put_other}
 use Rattle.cb_boole.specs.Elimination.{IsAway}
 
 put_alike_at : (P : ℕ → Type 0) (p q : Bits) (l : ℕ) (b c : Bool) → AreAlike P p q → (P l → b ≡ c) →
-  (k : ℕ) → P k → (k ≡ l) ⊎ (k ≡ l → ⊥) → put l b p k ≡ put l c q k
+    (k : ℕ) → P k → (k ≡ l) ⊎ (k ≡ l → ⊥) → put l b p k ≡ put l c q k
 put_alike_at P p q l b c h e k w (inl same) =
     subst (λ j. put l b p j ≡ put l c q j) (sym same) (put_same p l b ∙ e (subst P same w) ∙ sym (put_same q l c))
 put_alike_at P p q l b c h e k w (inr ne) = put_other p l b k ne ∙ h k w ∙ sym (put_other q l c k ne)
@@ -19,7 +19,7 @@ pub both_only : (P : ℕ → Type 0) (l : ℕ) (f : Function) → DependsOnly P 
 unfolding both
 both_only P l f only p q h =
     ap₂ ◌&&◌ (only (put l false p) (put l false q) (put_alike P p q l false false h (λ w. refl)))
-      (only (put l true p) (put l true q) (put_alike P p q l true true h (λ w. refl)))
+    (only (put l true p) (put l true q) (put_alike P p q l true true h (λ w. refl)))
 
 pub mended_alike : (P : ℕ → Type 0) (l : ℕ) (f : Function) → DependsOnly P f → (p q : Bits) → AreAlike P p q → AreAlike P (mended l f p) (mended l f q)
 unfolding mended
@@ -52,7 +52,7 @@ pub both_drops : (P : ℕ → Type 0) (l : ℕ) (f : Function) → DependsOnly (
 unfolding both
 both_drops P l f only p q h =
     ap₂ ◌&&◌ (only (put l false p) (put l false q) (λ k w. held_alike_at P p q l false h k w (cases_eq k l)))
-      (only (put l true p) (put l true q) (λ k w. held_alike_at P p q l true h k w (cases_eq k l)))
+    (only (put l true p) (put l true q) (λ k w. held_alike_at P p q l true h k w (cases_eq k l)))
 
 -- what is left depends on the constants alone
 pub rest_held : (c : ℕ) (ls : List ℕ) (f : Function) → DependsOnly (IsHeld c ls) f → DependsOnly (λ k. k < c) (rest ls f)
@@ -73,7 +73,7 @@ unfolding rest
 rest_drops P [] f only = weaker P (λ k. P k × Unit {0}) f only (λ k h. (h, tt))
 rest_drops P (l ∷ ls) f only =
     weaker (λ k. (P k × (k ≢ l)) × IsAway k ls) (λ k. P k × ((k ≢ l) × IsAway k ls)) (rest ls (both l f))
-      (rest_drops (λ k. P k × (k ≢ l)) ls (both l f)
-        (both_drops (λ k. P k × (k ≢ l)) l f
-          (weaker P (λ k. (k ≡ l) ⊎ (P k × (k ≢ l))) f only (λ k h. away_or P l k h (cases_eq k l)))))
-      (λ k h. (h.0.0, (h.0.1, h.1)))
+    (rest_drops (λ k. P k × (k ≢ l)) ls (both l f)
+    (both_drops (λ k. P k × (k ≢ l)) l f
+    (weaker P (λ k. (k ≡ l) ⊎ (P k × (k ≢ l))) f only (λ k h. away_or P l k h (cases_eq k l)))))
+    (λ k h. (h.0.0, (h.0.1, h.1)))

@@ -1,5 +1,5 @@
 -- Laws of elimination: each is the contract of a function of this crate.
-use Rattle.std.specs.Prelude.{◌≡◌, ◌↔◌, ℕ, Bool, true, false, not, ◌&&◌, ◌||◌, List}
+use Rattle.std.specs.Prelude.{◌≡◌, ◌↔◌, ℕ, true, false, not, ◌&&◌, ◌||◌, List}
 use Rattle.cb_model.specs.Bits.{Bits, put}
 use Rattle.cb_boole.specs.Elimination.{Function, both, mended, rest, solved, IsAway}
 

@@ -1,7 +1,7 @@
 -- What contracts see of a store of Boolean variables, and its range.
-use Rattle.std.specs.Prelude.{◌≡◌, ◌≢◌, ℕ, ◌<◌, Bool, true, false, List, [], ◌∷◌, Contains, Option, Some, None, ◌⊎◌, cond, eqb}
+use Rattle.std.specs.Prelude.{◌≡◌, ◌≢◌, ℕ, ◌<◌, Bool, List, Option, Some, None, ◌⊎◌, cond, eqb}
 use Rattle.cb_model.specs.Bits.{Bits, put}
-use Rattle.cb_boole.specs.Elimination.{Function, both, mended, rest, solved, DependsOnly, AreAlike}
+use Rattle.cb_boole.specs.Elimination.{Function, solved, DependsOnly}
 
 -- constants 0 up to a number, for each free level the variable that it stands for (a slot's number),
 -- which slots are variables, and the slots' values
@@ -53,7 +53,7 @@ unified S ls f = record {
   constants = S.constants;
   stands = S.stands;
   IsVariable = S.IsVariable;
-  values = λ x p. S.values x (solved ls f p)
+  values = λ x p. S.values x (solved ls f p);
 }
 
 -- the function with another value at one number
@@ -66,7 +66,7 @@ with_variable S l x = record {
   constants = S.constants;
   stands = with_at S.stands l (Some x);
   IsVariable = λ y. S.IsVariable y ⊎ (y ≡ x);
-  values = with_at S.values x (λ p. p l)
+  values = with_at S.values x (λ p. p l);
 }
 
 -- the store after a new slot that is no variable
@@ -75,7 +75,7 @@ with_slot S x f = record {
   constants = S.constants;
   stands = S.stands;
   IsVariable = S.IsVariable;
-  values = with_at S.values x f
+  values = with_at S.values x f;
 }
 
 -- the slot is free, and its level is in no other slot

@@ -396,3 +396,53 @@ pub fn values_are_most_general()
     ensures reproductive { (s : Seen) → IsStore s → IsReproductive (view_of s) }
     ensures most_general { (s : Seen) → IsStore s → IsMostGeneral (view_of s) }
 {}
+
+#[cfg(test)]
+mod tests {
+    use super::*;
+    use std::test::Fail;
+
+    fn is_here(store: &Store, slot: Slot) -> bool
+        ensures { IsTrue result ↔ (slot.0 < length store.now.slots) }
+    {
+        slot.0 < store.slots.len()
+    }
+
+    // A store with one constant and one variable, in slot 0.
+    fn one_variable(alloc: Global, budget: usize) -> Result<Store, Stop>
+        ensures store { IfOk result (λ s. IsStore s) }
+        ensures constants { IfOk result (λ s. s.constants ≡ 1) }
+        ensures slots { IfOk result (λ s. length s.slots ≡ 1) }
+    {
+        let Ok(mut store) = Store::new(alloc, 1, budget) else {
+            return Err(Stop::Memory);
+        };
+        let _x = store.variable()?;
+        Ok(store)
+    }
+
+    // The variable is made equal to the constant.
+    fn is_the_constant(store: &mut Store) -> Result<bool, Stop>
+        requires store { IsStore store.old }
+        requires constants { store.old.constants ≡ 1 }
+        requires slots { length store.old.slots ≡ 1 }
+        ensures store { IsStore store.new }
+        ensures slots { length store.new.slots ≡ 1 }
+    {
+        let a = store.constant(0)?;
+        let x = store.value(Slot(0));
+        store.unify(x, a)
+    }
+
+    #[test]
+    fn an_equation_rewrites_the_variable(rt: HostRuntime) -> Result<(), Fail> {
+        let mut store = one_variable(rt.alloc(), 100)?;
+        let free = store.value(Slot(0));
+        assert_eq!(rt; is_the_constant(&mut store), Ok(true));
+        assert!(rt; is_here(&store, Slot(0)));
+        let value = store.value(Slot(0));
+        assert!(rt; value != free);
+        assert_eq!(rt; store.known(value)?, true);
+        Ok(())
+    }
+}

@@ -1,13 +1,10 @@
 -- The solution, one level after another.
-use Rattle.std.proofs.Common.{◌≡◌, ◌≢◌, ◌⊎◌, inl, inr, ℕ, zero, suc, ◌+◌, ◌*◌, ◌<◌, ◌≤◌, ◌^◌, Bool, true, false, ◌&&◌, ◌||◌, List, [], ◌∷◌, ◌++◌, length, map, nat_eq, get_or, take, drop, ◌-◌, Option, Some, None, if◌then◌else◌, refl, sym, ap, ap₂, subst, ◌∙◌, arith, length-append}
-use Rattle.std.proofs.lemmas.Bool.{cases_Bool, cases_eq, cases_lt, eq-eqb, eqb-true, eqb-false, ne_eqb, true≢false}
-use Rattle.std.proofs.lemmas.Nat.{pow_pos}
+use Rattle.std.proofs.Common.{◌≡◌, ◌⊎◌, inl, inr, ℕ, zero, suc, ◌+◌, ◌<◌, ◌≤◌, Bool, true, false, ◌||◌, List, [], ◌∷◌, ◌++◌, length, map, nat_eq, get_or, take, drop, ◌-◌, Option, Some, None, if◌then◌else◌, refl, sym, ap, subst, ◌∙◌, arith, length-append}
+use Rattle.std.proofs.lemmas.Bool.{cases_Bool, cases_eq, cases_lt, eq-eqb, eqb-true, ne_eqb, true≢false}
 use Rattle.std.proofs.lemmas.List.{map-append, get_or_append_left}
 use Rattle.std.proofs.lemmas.List.Folds.{list_any-append}
-use Rattle.std.proofs.lemmas.Option.{same_Some}
 use Rattle.std.proofs.Math.Seq.{get_or-append_seam, take-length}
 use Rattle.std.proofs.Math.Path.{fun_ext}
-use Rattle.std.proofs.Math.Nat.{mul-le-mul_left}
 use Rattle.std.specs.List.{list_any}
 use Rattle.std.specs.List.Sorted.{IsStrictlyIncreasing}
 use Rattle.std.specs.Option.{option_map_or}
@@ -15,13 +12,13 @@ use Rattle.cb_model.specs.Bits.{Bits, put, xor}
 use Rattle.cb_dd.specs.declared.Triple.{Triple}
 use Rattle.cb_dd.specs.declared.Node.{Node}
 use Rattle.cb_dd.specs.Diagram.{Store, IsDiagram, IsNode, function_of}
-use Rattle.cb_dd.proofs.Diagrams.{function_of-zero, function_of-one, kind_of, Kind, bottom, top, inner, node-within, function_of-lo, function_of-hi}
+use Rattle.cb_dd.proofs.Diagrams.{function_of-zero, function_of-one, kind_of, bottom, top, inner, node-within, function_of-lo, function_of-hi}
 use Rattle.cb_ops.specs.Ops.{Grows, StandsFor, Room, DependsOn, Agree}
 use Rattle.cb_ops.specs.Support.{IsListed}
 use Rattle.cb_ops.specs.Substitute.{Images, AreNodes, substituted, image_of}
-use Rattle.cb_ops.proofs.Ite.{grown-function, grown-depends, grown-node, Grows-then, put-same, put-other}
+use Rattle.cb_ops.proofs.Ite.{grown-function, grown-depends, Grows-then, put-same, put-other}
 use Rattle.cb_ops.proofs.Gather.{agree-at}
-use Rattle.cb_ops.proofs.Substitute.{substituted-grown, image-node, grown-nodes}
+use Rattle.cb_ops.proofs.Substitute.{image-node, grown-nodes}
 use Rattle.cb_boole.specs.Elimination.{Function, both, mended, rest, solved, DependsOnly}
 use Rattle.cb_boole.proofs.Only.{both_only, solved_alike}
 use Rattle.cb_solution.specs.Solution.{IsFalling, IsImage, IsSolution, HasRest, ImagesWithin, ImageRoom, SolutionRoom}
@@ -173,7 +170,6 @@ nodes-more ts (x ∷ xs) l n h w = (h.0, nodes-more ts xs l n h.1 w)
 
 module _ (s t u v : Store) (st : Grows s t) (tu : Grows t u) (uv : Grows u v) (f left level : ℕ) (lower : List ℕ) (wf : IsNode s.triples f) (wl : IsNode t.triples left)
     (is_left : StandsFor t.triples left (both level (function_of s.triples f))) where
-
   left-function : function_of t.triples left ≡ both level (function_of s.triples f)
   left-function = fun_ext (λ p. is_left.at p)
 
@@ -199,7 +195,7 @@ module _ (s t u v : Store) (st : Grows s t) (tu : Grows t u) (uv : Grows u v) (f
       each = λ l m e. only-into u.triples m.0 ls (λ p. solved lower (function_of t.triples left) p l)
           (record { at = λ p. sym (at-some u.triples images p l m e) ∙ ap (λ (q : Bits). q l) (found.at p) })
           (λ p q h. solved_alike (IsListed ls) lower (function_of t.triples left) (only-from t.triples left ls (left-depends ls d)) p q h l
-            (all l (listed-there level l lower (found.within l (image-listed images l m e)))));
+          (all l (listed-there level l lower (found.within l (image-listed images l m e)))));
     }
 
     pub room-third : Room (f ∷ []) 3 s t → SolutionRoom left lower t u → ImageRoom f level images u v → SolutionRoom f (level ∷ lower) s v
@@ -226,10 +222,10 @@ module _ (s t u v : Store) (st : Grows s t) (tu : Grows t u) (uv : Grows u v) (f
       image-value p = is_node.at p ∙ ap (λ b. xor b (substituted u.triples images p level)) (grown-function s u (Grows-then s t u st tu) f wf (substituted u.triples images p))
 
       put-in : (p : Bits) (k : ℕ) → (k ≡ level) ⊎ (k ≡ level → ⊥) →
-        substituted v.triples (images ++ (level, node) ∷ []) p k ≡ put level (xor (function_of s.triples f (substituted u.triples images p)) (substituted u.triples images p level)) (substituted u.triples images p) k
+          substituted v.triples (images ++ (level, node) ∷ []) p k ≡ put level (xor (function_of s.triples f (substituted u.triples images p)) (substituted u.triples images p level)) (substituted u.triples images p) k
       put-in p k (inl same) =
           at-some v.triples (images ++ (level, node) ∷ []) p k node
-            (image-last images level node k (ap (image_of images) same ∙ fresh) ∙ ap (λ b. if b then Some node else None) (eq-eqb k level same))
+          (image-last images level node k (ap (image_of images) same ∙ fresh) ∙ ap (λ b. if b then Some node else None) (eq-eqb k level same))
           ∙ image-value p
           ∙ sym (put-same (substituted u.triples images p) level k (xor (function_of s.triples f (substituted u.triples images p)) (substituted u.triples images p level)) same)
       put-in p k (inr other) = elim (cases-image (image_of images k)) [
@@ -248,7 +244,7 @@ module _ (s t u v : Store) (st : Grows s t) (tu : Grows t u) (uv : Grows u v) (f
       unfolding rest solved mended
       solution-more = record {
         rise = subst IsStrictlyIncreasing (sym (map-append (λ i. i.0) images ((level, node) ∷ [])))
-          (rising-more (map (λ i. i.0) images) level found.rise (λ k there. falls.0 k (found.within k there)));
+            (rising-more (map (λ i. i.0) images) level found.rise (λ k there. falls.0 k (found.within k there)));
         within = λ l there. within l (listed-append (map (λ i. i.0) images) (level ∷ []) l (subst (λ xs. IsListed xs l) (map-append (λ i. i.0) images ((level, node) ∷ [])) there));
         nodes = nodes-more v.triples images level node (grown-nodes u v uv images found.nodes) wn;
         at = λ p.

@@ -1,18 +1,16 @@
 -- What elimination of one level makes, and how many nodes.
-use Rattle.std.proofs.Common.{◌≡◌, ℕ, ◌+◌, ◌*◌, ◌<◌, ◌≤◌, ◌^◌, Bool, true, false, ◌&&◌, List, [], ◌∷◌, length, if◌then◌else◌, refl, sym, ap, ap₂, ◌∙◌, arith}
+use Rattle.std.proofs.Common.{◌≡◌, ℕ, ◌+◌, ◌<◌, ◌≤◌, ◌^◌, true, false, ◌&&◌, List, [], ◌∷◌, length, if◌then◌else◌, sym, ap, ap₂, ◌∙◌, arith}
 use Rattle.std.proofs.lemmas.Nat.{pow_pos}
 use Rattle.cb_model.specs.Bits.{Bits, put, xor}
-use Rattle.cb_dd.specs.declared.Triple.{Triple}
-use Rattle.cb_dd.specs.declared.Node.{Node}
 use Rattle.cb_dd.specs.Diagram.{Store, IsNode, function_of}
-use Rattle.cb_ops.specs.Ops.{Grows, StandsFor, Room, DependsOn, Agree}
+use Rattle.cb_ops.specs.Ops.{Grows, StandsFor, Room, DependsOn}
 use Rattle.cb_ops.specs.Support.{IsListed}
-use Rattle.cb_ops.specs.Substitute.{Images, AreNodes, SubstituteRoom, substituted, image_of}
-use Rattle.cb_ops.proofs.Ite.{grown-function, grown-depends, grown-node, Grows-then, literal-is}
+use Rattle.cb_ops.specs.Substitute.{Images, AreNodes, SubstituteRoom, substituted}
+use Rattle.cb_ops.proofs.Ite.{grown-function, grown-depends, Grows-then, literal-is}
 use Rattle.cb_ops.proofs.Gather.{agree-at}
 use Rattle.cb_ops.proofs.Substitute.{substituted-grown, image-node}
 use Rattle.cb_boole.specs.Elimination.{both}
-use Rattle.cb_solution.specs.Solution.{IsImage, ImageRoom, ImagesWithin}
+use Rattle.cb_solution.specs.Solution.{IsImage, ImageRoom}
 
 -- the sides of f at the level, and what is 1 where both are
 module _ (s t u v : Store) (st : Grows s t) (tu : Grows t u) (f level low high : ℕ) (wf : IsNode s.triples f) (wl : IsNode t.triples low)

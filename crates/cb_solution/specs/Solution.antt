@@ -1,5 +1,5 @@
 -- What elimination on nodes promises.
-use Rattle.std.specs.Prelude.{◌≡◌, ℕ, ◌+◌, ◌-◌, ◌*◌, ◌<◌, ◌≤◌, ◌^◌, min, Bool, true, false, List, [], ◌∷◌, length, map, Option, Some, None, Result, Ok, Err}
+use Rattle.std.specs.Prelude.{◌≡◌, ℕ, ◌+◌, ◌-◌, ◌*◌, ◌<◌, ◌≤◌, ◌^◌, min, true, false, List, [], ◌∷◌, length, map, Some, Result, Ok, Err}
 use Rattle.std.specs.List.Sorted.{IsStrictlyIncreasing}
 use Rattle.cb_model.specs.Bits.{Bits, xor}
 use Rattle.cb_dd.specs.declared.Triple.{Triple}
@@ -41,12 +41,12 @@ pub record ImagesWithin (ts : List Triple) (images : Images) (ls : List ℕ) : T
 -- nodes that one image adds at most, where f and the images depend on the levels of the list alone, and the level is among them
 pub record ImageRoom (f level : ℕ) (images : Images) (old new : Store) : Type 0 where
   pub most : (ls : List ℕ) → DependsOn old.triples f ls → IsListed ls level → ImagesWithin old.triples images ls →
-    length new.triples ≤ length old.triples + (2 * 2 ^ length ls + 2 ^ length ls * 2 ^ length ls)
+      length new.triples ≤ length old.triples + (2 * 2 ^ length ls + 2 ^ length ls * 2 ^ length ls)
 
 -- nodes that the solution adds at most, where f depends on the levels of the list alone, and those eliminated are among them
 pub record SolutionRoom (f : ℕ) (levels : List ℕ) (old new : Store) : Type 0 where
   pub most : (ls : List ℕ) → DependsOn old.triples f ls → ((l : ℕ) → IsListed levels l → IsListed ls l) →
-    length new.triples ≤ length old.triples + length levels * (5 * 2 ^ length ls + 2 ^ length ls * 2 ^ length ls)
+      length new.triples ≤ length old.triples + length levels * (5 * 2 ^ length ls + 2 ^ length ls * 2 ^ length ls)
 
 -- the number of refusals for nodes after an answer
 abbrev pub has_refused : {A : Type 0} → ℕ → Result A Stop → ℕ

@@ -50,7 +50,12 @@ fn image(ops: &mut Ops, f: Node, level: u32, images: &[(u32, Node)]) -> Result<N
 /// The solution of f = 0 for these levels, which fall: for each its image, a node over the other levels of f and the
 /// levels' own bits as parameters, the least level first; to be put in all at once. `None` where elimination of the
 /// levels leaves something.
-pub fn solution(alloc: Global, ops: &mut Ops, f: Node, levels: &[u32]) -> Result<Option<Vec<(u32, Node)>>, Stop>
+pub fn solution(
+    alloc: Global,
+    ops: &mut Ops,
+    f: Node,
+    levels: &[u32],
+) -> Result<Option<Vec<(u32, Node)>>, Stop>
     requires f { IsNode ops.old.triples f.0 }
     requires fall { IsFalling levels.now }
     ensures solved { IfOk result (λ r. IfSome r (λ images. IsSolution ops.old.triples ops.new.triples f.0 levels.now images.items)) }

@@ -25,14 +25,14 @@ substitute-requires-clause-nodes c =
 pub returns-in_err-n-clause-room : goal.returns-in_err-n-clause-room
 returns-in_err-n-clause-room c =
     image-room c.args.ops.now c.node.new.self c.xor.new.self c.substitute.new.self c.node.ensures.grows c.xor.ensures.grows c.args.images.now c.requires.images c.args.f.0 c.args.level c.in_ok-own.own.0 c.in_ok-turned.turned.0 c.requires.f c.in_ok-own.ensures.function
-        c.in_ok-turned.ensures.function c.node.ensures.one c.xor.ensures.room c.substitute.ensures.room
+    c.in_ok-turned.ensures.function c.node.ensures.one c.xor.ensures.room c.substitute.ensures.room
 
 pub returns-clause-room : goal.returns-clause-room
 returns-clause-room c =
     image-room c.args.ops.now c.node.new.self c.xor.new.self c.substitute.new.self c.node.ensures.grows c.xor.ensures.grows c.args.images.now c.requires.images c.args.f.0 c.args.level c.in_ok-own.own.0 c.in_ok-turned.turned.0 c.requires.f c.in_ok-own.ensures.function
-        c.in_ok-turned.ensures.function c.node.ensures.one c.xor.ensures.room c.substitute.ensures.room
+    c.in_ok-turned.ensures.function c.node.ensures.one c.xor.ensures.room c.substitute.ensures.room
 
 pub returns-clause-function : goal.returns-clause-function
 returns-clause-function c =
     image-is c.args.ops.now c.node.new.self c.xor.new.self c.substitute.new.self c.node.ensures.grows c.xor.ensures.grows c.args.images.now c.requires.images c.args.f.0 c.args.level c.in_ok-own.own.0 c.in_ok-turned.turned.0 c.requires.f c.in_ok-own.ensures.function
-        c.in_ok-turned.ensures.function c.in_ok-n.n.0 c.in_ok-n.ensures.function
+    c.in_ok-turned.ensures.function c.in_ok-n.n.0 c.in_ok-n.ensures.function
