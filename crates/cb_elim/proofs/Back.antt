@@ -58,9 +58,9 @@ module _ (old new : Seen) (l : Later old new) (m : Moment) (w : IsMoment m old) 
       ∙ ap (λ cs. undone cs (take m.slots new.slots)) (drop-append-le m.trail old.trail l.changes w.trail)
       ∙ undone-append (drop m.trail old.trail) l.changes (take m.slots new.slots)
       ∙ ap (λ ns. undone (drop m.trail old.trail) ns)
-        (ap (λ ns. undone l.changes ns) (sym (take-take m.slots (length old.slots) new.slots w.slots))
-        ∙ sym (take-undone m.slots l.changes (take (length old.slots) new.slots))
-        ∙ ap (λ ns. take m.slots ns) l.slots)
+      (ap (λ ns. undone l.changes ns) (sym (take-take m.slots (length old.slots) new.slots w.slots))
+      ∙ sym (take-undone m.slots l.changes (take (length old.slots) new.slots))
+      ∙ ap (λ ns. take m.slots ns) l.slots)
 
   budget-back : new.nodes.budget ≡ old.nodes.budget
   budget-back = l.nodes.budget

@@ -22,10 +22,10 @@ undone-from xs [] (v ∷ vs) h = absurd (omega arith)
 undone-from xs (n ∷ ns) [] h = absurd (omega arith)
 undone-from xs (n ∷ ns) (v ∷ vs) h =
     let next : (w : Node) → undone (changes_from (suc (length xs)) ns vs) (xs ++ w ∷ vs) ≡ xs ++ w ∷ ns
-      = λ w. ap (λ zs. undone (changes_from (suc (length xs)) ns vs) zs) (sym (append_assoc xs (w ∷ []) vs))
-        ∙ ap (λ k. undone (changes_from k ns vs) ((xs ++ w ∷ []) ++ vs)) (let e : suc (length xs) ≡ length (xs ++ w ∷ []) = omega (arith, length-append xs (w ∷ [])) in e)
-        ∙ undone-from (xs ++ w ∷ []) ns vs (omega arith)
-        ∙ append_assoc xs (w ∷ []) ns in
+    = λ w. ap (λ zs. undone (changes_from (suc (length xs)) ns vs) zs) (sym (append_assoc xs (w ∷ []) vs))
+    ∙ ap (λ k. undone (changes_from k ns vs) ((xs ++ w ∷ []) ++ vs)) (let e : suc (length xs) ≡ length (xs ++ w ∷ []) = omega (arith, length-append xs (w ∷ [])) in e)
+    ∙ undone-from (xs ++ w ∷ []) ns vs (omega arith)
+    ∙ append_assoc xs (w ∷ []) ns in
     elim (cases_Bool (nat_eq n.0 v.0)) [
       | inl same ↦
           ap (λ b. undone (if b then changes_from (suc (length xs)) ns vs else record { slot = length xs; value = n } ∷ changes_from (suc (length xs)) ns vs) (xs ++ v ∷ vs)) same
@@ -58,7 +58,7 @@ changes-last j k (m ∷ ns) [] n v h e = absurd (omega arith)
 changes-last j k (m ∷ ns) (w ∷ vs) n v h e =
     let r : changes_from (suc j) (ns ++ n ∷ []) (vs ++ v ∷ []) ≡ changes_from (suc j) ns vs ++ change_at k n v = changes-last (suc j) k ns vs n v (omega arith) (omega arith) in
     elim (nat_eq m.0 w.0) as (λ b. (if b then changes_from (suc j) (ns ++ n ∷ []) (vs ++ v ∷ []) else record { slot = j; value = m } ∷ changes_from (suc j) (ns ++ n ∷ []) (vs ++ v ∷ []))
-        ≡ (if b then changes_from (suc j) ns vs else record { slot = j; value = m } ∷ changes_from (suc j) ns vs) ++ change_at k n v) [
+    ≡ (if b then changes_from (suc j) ns vs else record { slot = j; value = m } ∷ changes_from (suc j) ns vs) ++ change_at k n v) [
       | true ↦ r
       | false ↦ ap (λ cs. record { slot = j; value = m } ∷ cs) r
     ]
@@ -82,4 +82,4 @@ pub remember-more : (t : List Change) (ns vs : List Node) (k : ℕ) (d e : Node)
 remember-more t ns vs k d e same h other =
     append_assoc t (changes_from 0 (take k ns) (take k vs)) (record { slot = k; value = get_or ns k d } ∷ [])
     ∙ sym (ap (λ cs. t ++ cs) (changes-next ns vs k d e same h
-      ∙ ap (λ b. changes_from 0 (take k ns) (take k vs) ++ (if b then [] else record { slot = k; value = get_or ns k d } ∷ [])) (ne_eqb (get_or ns k d).0 (get_or vs k e).0 other)))
+    ∙ ap (λ b. changes_from 0 (take k ns) (take k vs) ++ (if b then [] else record { slot = k; value = get_or ns k d } ∷ [])) (ne_eqb (get_or ns k d).0 (get_or vs k e).0 other)))

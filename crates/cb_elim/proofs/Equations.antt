@@ -47,6 +47,7 @@ module _ (S : View) (t : Function) (fit : IsFit S t) where
     where
       clash : (x : ℕ) → S.stands l ≡ Some x → ⊥
       clash x w = cc
+
       off : (k : ℕ) → IsLive S k → k ≢ l
       off k (inl w) i = not-le_of_lt w (subst (λ j. S.constants ≤ j) (sym i) h)
       off k (inr (x, w)) i = clash x (subst (λ j. S.stands j ≡ Some x) i w)
@@ -133,17 +134,17 @@ module _ (now s : Seen) (is : s ≡ now) (st : IsStore now) (f g : ℕ) (a : IsA
 
   pub solve-none : HasNoSolution s.nodes.triples s.constants f g → HasNone (view_of now) (function_of now.nodes.triples f) (function_of now.nodes.triples g)
   solve-none h = subst (λ (o : Seen). HasNone (view_of o) (function_of o.nodes.triples f) (function_of o.nodes.triples g)) is
-    (has-none s inside f g (argument f a) (argument g b) h.levels h.elimination h.at h.left)
+      (has-none s inside f g (argument f a) (argument g b) h.levels h.elimination h.at h.left)
 
   module _ (vs : List Node) (cs : List Change) (t : Store) (gen : IsGeneral s.nodes.triples t.triples s.constants s.slots f g vs) where
     pub solve-solved : IsSolved (view_of now) (view_of (record s { slots = vs; trail = cs; nodes = t })) (function_of now.nodes.triples f) (function_of now.nodes.triples g)
     solve-solved = subst (λ (o : Seen). IsSolved (view_of o) (view_of (record s { slots = vs; trail = cs; nodes = t })) (function_of o.nodes.triples f) (function_of o.nodes.triples g)) is
-      (is-solved s inside f g (argument f a) (argument g b) gen.levels gen.elimination gen.none_left vs cs t gen.at)
+        (is-solved s inside f g (argument f a) (argument g b) gen.levels gen.elimination gen.none_left vs cs t gen.at)
 
     module _ (trail : cs ≡ s.trail ++ changes_from 0 s.slots vs) where
       pub solve-store : IsStore (record s { slots = vs; trail = cs; nodes = t })
       solve-store = store-solved s inside f g (argument f a) (argument g b) gen.levels gen.elimination gen.none_left vs cs t gen.at gen.there gen.number
-        (subst (λ (xs : List Change). Each (λ c. c.slot < length s.slots) xs) (sym trail)
+          (subst (λ (xs : List Change). Each (λ c. c.slot < length s.slots) xs) (sym trail)
           (each-append (length s.slots) s.trail (changes_from 0 s.slots vs) inside.trail (changes-within 0 s.slots vs (length s.slots) (omega arith))))
 
       pub solve-values : Grows s.nodes t → OnlyValues now (record s { slots = vs; trail = cs; nodes = t })
@@ -200,6 +201,7 @@ cut-before old mid s is o n same u cut budget fulls = record {
   where
     b : u.budget ≡ old.nodes.budget
     b = budget ∙ ap (λ (v : Seen). v.nodes.budget) is ∙ o.grows.budget
+
     t : u.triples ≡ old.nodes.triples
     t = cut ∙ ap (λ (v : Seen). take n v.nodes.triples) is ∙ ap (λ k. take k mid.nodes.triples) same ∙ ap (λ ts. take (length old.nodes.triples) ts) o.grows.triples
         ∙ take-append-le (length old.nodes.triples) old.nodes.triples o.grows.more (omega arith) ∙ take-length old.nodes.triples

@@ -21,10 +21,10 @@ same-item xs k d e h = let a = slice_get-get_or xs k d h in let b = slice_get-ge
 module _ (ts : List Triple) (f c : ℕ) (support : List ℕ) (enough : DependsOn ts f support) (needed : (l : ℕ) → Contains support l → IsFree ts f l → ⊥) where
   pub known-below : ((k : ℕ) → k < length support → get_or support k 0 < c) → DependsOnly (λ l. l < c) (function_of ts f)
   known-below all p q alike = only-from ts f support enough p q (λ l there.
-    let w = Contains-from_any {eq = nat_eq} (λ x y d. eqb-true x y d) l support there in
-    let below : get_or support w.0 0 < c = all w.0 w.1 in
-    let e : get_or support w.0 0 ≡ l = same-item support w.0 0 l w.1 ∙ w.2 in
-    alike l (subst (λ j. j < c) e below))
+      let w = Contains-from_any {eq = nat_eq} (λ x y d. eqb-true x y d) l support there in
+      let below : get_or support w.0 0 < c = all w.0 w.1 in
+      let e : get_or support w.0 0 ≡ l = same-item support w.0 0 l w.1 ∙ w.2 in
+      alike l (subst (λ j. j < c) e below))
 
   pub below-known : DependsOnly (λ l. l < c) (function_of ts f) → (k : ℕ) → k < length support → get_or support k 0 < c
   below-known only k h = elim (cases_lt (get_or support k 0) c) [

@@ -18,7 +18,7 @@ use Rattle.cb_elim.proofs.Falling.{listed-reverse, from-reverse, falling-reverse
 
 module _ (test : ℕ → Bool) where
   filtered-cases : (x : ℕ) (xs : List ℕ) (b : Bool) → test x ≡ b → (k : ℕ) → IsListed (cond b (x ∷ filter test xs) (filter test xs)) k →
-    (IsListed (filter test xs) k → IsListed xs k × (test k ≡ true)) → IsListed (x ∷ xs) k × (test k ≡ true)
+      (IsListed (filter test xs) k → IsListed xs k × (test k ≡ true)) → IsListed (x ∷ xs) k × (test k ≡ true)
   filtered-cases x xs true e k h rec = elim (listed-cases x k (filter test xs) h) [
     | inl same ↦ (subst (λ j. IsListed (x ∷ xs) j) (sym same) (listed-here x xs), ap test same ∙ e)
     | inr there ↦ (listed-there x k xs (rec there).0, (rec there).1)
@@ -30,7 +30,7 @@ module _ (test : ℕ → Bool) where
   filtered (x ∷ xs) k h = filtered-cases x xs (test x) refl k h (λ there. filtered xs k there)
 
   into-cases : (x : ℕ) (xs : List ℕ) (b : Bool) → test x ≡ b → (k : ℕ) → test k ≡ true → (k ≡ x) ⊎ IsListed xs k →
-    (IsListed xs k → IsListed (filter test xs) k) → IsListed (cond b (x ∷ filter test xs) (filter test xs)) k
+      (IsListed xs k → IsListed (filter test xs) k) → IsListed (cond b (x ∷ filter test xs) (filter test xs)) k
   into-cases x xs true e k t (inl same) rec = subst (λ j. IsListed (x ∷ filter test xs) j) (sym same) (listed-here x (filter test xs))
   into-cases x xs true e k t (inr there) rec = listed-there x k (filter test xs) (rec there)
   into-cases x xs false e k t (inl same) rec = absurd (true≢false (sym t ∙ ap test same ∙ e))

@@ -55,5 +55,5 @@ pub moved-step : (s t u : Store) (st : Grows s t) (tu : Grows t u) (images : Ima
     StandsFor u.triples v.0 (λ a. function_of t.triples (get_or ns k d).0 (substituted t.triples images a)) → AreMoved s.triples t.triples images (take k ns) vs → AreMoved s.triples u.triples images (take (k + 1) ns) ws
 moved-step s t u st tu images nodes ns vs ws k d v h there pushed wv is m =
     subst (λ (xs : List Node). AreMoved s.triples u.triples images xs ws) (sym (take_more ns k d h))
-      (subst (λ (ys : List Node). AreMoved s.triples u.triples images (take k ns ++ get_or ns k d ∷ []) ys) (sym pushed)
-        (moved-more s t u st tu images nodes (take k ns) vs (get_or ns k d) v (there-at s.triples ns d k there h) wv is m))
+    (subst (λ (ys : List Node). AreMoved s.triples u.triples images (take k ns ++ get_or ns k d ∷ []) ys) (sym pushed)
+    (moved-more s t u st tu images nodes (take k ns) vs (get_or ns k d) v (there-at s.triples ns d k there h) wv is m))

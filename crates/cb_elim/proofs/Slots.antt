@@ -165,16 +165,17 @@ module _ (s : Seen) (n : Node) (st : IsStore s) (w : IsNode s.nodes.triples n.0)
     where
       stands : stands_in (s.free ++ record { level = s.drawn; slot = length s.slots } ∷ []) ≡ with_at (stands_in s.free) s.drawn (Some (length s.slots))
       stands = fun_ext (λ k. stands-more s.drawn (length s.slots) s.free (unused s st) k (cases_eq k s.drawn))
+
       values : value_in s.nodes.triples (s.slots ++ n ∷ []) ≡ with_at (value_in s.nodes.triples s.slots) (length s.slots) (λ p. p s.drawn)
       values = fun_ext (λ y.
-        value-more s.nodes.triples s.slots n y (cases_eq y (length s.slots))
-        ∙ ap (λ (f : Function). with_at (value_in s.nodes.triples s.slots) (length s.slots) f y) (fun_ext (λ p. own.at p)))
+          value-more s.nodes.triples s.slots n y (cases_eq y (length s.slots))
+          ∙ ap (λ (f : Function). with_at (value_in s.nodes.triples s.slots) (length s.slots) f y) (fun_ext (λ p. own.at p)))
 
   pub store-new : IsStore (with_new s n)
   unfolding view_of
   store-new = record {
     good = subst IsGood (sym view-new) (good_variables (with_variable (view_of s) s.drawn (length s.slots)) (IsVariableOf (s.free ++ record { level = s.drawn; slot = length s.slots } ∷ []))
-      (good_with_variable (view_of s) st.good s.drawn (length s.slots) (no-slot s st) (unused s st) above) (λ y h. variable-into s.drawn (length s.slots) s.free y h));
+        (good_with_variable (view_of s) st.good s.drawn (length s.slots) (no-slot s st) (unused s st) above) (λ y h. variable-into s.drawn (length s.slots) s.free y h));
     slots = λ y h. elim (variable-from s.drawn (length s.slots) s.free y h) [
       | inl old ↦ let r : y < length s.slots = st.slots y old in omega (arith, length-append s.slots (n ∷ []))
       | inr e ↦ omega (arith, length-append s.slots (n ∷ []))
@@ -208,7 +209,7 @@ module _ (s : Seen) (n : Node) (st : IsStore s) (w : IsNode s.nodes.triples n.0)
   new-argument m a = record {
     node = a.node;
     fit = subst (λ (S : View). IsFit S (function_of s.nodes.triples m)) (sym view-new)
-      (let q = fit_with_variable (view_of s) st.good s.drawn (length s.slots) (no-slot s st) (unused s st) above (function_of s.nodes.triples m) a.fit in record { only = q.only; kept = q.kept });
+        (let q = fit_with_variable (view_of s) st.good s.drawn (length s.slots) (no-slot s st) (unused s st) above (function_of s.nodes.triples m) a.fit in record { only = q.only; kept = q.kept });
   }
 
 pub keeps-new : (s : Seen) (n : Node) → KeepsMoments s (with_new s n)
@@ -257,12 +258,12 @@ module _ (now s : Seen) (is : s ≡ now) (st : IsStore now) (t : Store) (g : Gro
 
   pub variable-range : HasSameRange (view_of now) (view_of (record { constants = s.constants; drawn = s.drawn + 1; free = free; slots = slots; trail = s.trail; nodes = t }))
   variable-range = subst (λ (o : Seen). HasSameRange (view_of now) (view_of o)) new-is
-    (subst (λ (S : View). HasSameRange S (view_of (with_new (record s { nodes = t }) n))) (view-still s t g inside.nodes ∙ ap view_of is)
+      (subst (λ (S : View). HasSameRange S (view_of (with_new (record s { nodes = t }) n))) (view-still s t g inside.nodes ∙ ap view_of is)
       (range-new (record s { nodes = t }) n grown-store w own))
 
   pub variable-arguments : (m : ℕ) → IsArgument now m → IsArgument (record { constants = s.constants; drawn = s.drawn + 1; free = free; slots = slots; trail = s.trail; nodes = t }) m
   variable-arguments m a = subst (λ (o : Seen). IsArgument o m) new-is
-    (new-argument (record s { nodes = t }) n grown-store w own m (argument-still s t inside g m (subst (λ (o : Seen). IsArgument o m) (sym is) a)))
+      (new-argument (record s { nodes = t }) n grown-store w own m (argument-still s t inside g m (subst (λ (o : Seen). IsArgument o m) (sym is) a)))
 
   pub variable-new : IsNewVariable now (record { constants = s.constants; drawn = s.drawn + 1; free = free; slots = slots; trail = s.trail; nodes = t }) x
   variable-new = subst (λ (o : Seen). IsNewVariable o (record { constants = s.constants; drawn = s.drawn + 1; free = free; slots = slots; trail = s.trail; nodes = t }) x) is (record {

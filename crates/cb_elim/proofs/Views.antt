@@ -44,7 +44,7 @@ pub argument-still : (s : Seen) (t : Store) → IsStore s → Grows s.nodes t �
 argument-still s t st g n a = record {
   node = grown-node s.nodes t g n a.node;
   fit = subst (λ (f : Function). IsFit (view_of (record s { nodes = t })) f) (sym (fun_ext (λ p. grown-function s.nodes t g n a.node p)))
-    (subst (λ (S : View). IsFit S (function_of s.nodes.triples n)) (sym (view-still s t g st.nodes)) a.fit);
+      (subst (λ (S : View). IsFit S (function_of s.nodes.triples n)) (sym (view-still s t g st.nodes)) a.fit);
 }
 
 -- the count of refusals says nothing of the store
@@ -81,7 +81,7 @@ module _ (now s : Seen) (is : s ≡ now) (st : IsStore now) where
     constant-argument k n h w f = record {
       node = w;
       fit = subst (λ (g : Function). IsFit (view_of (record s { nodes = t })) g) (sym (fun_ext (λ p. f.at p)))
-        (fit_constant (view_of (record s { nodes = t })) store-grown.good k (subst (λ (o : Seen). k < o.constants) (sym is) h));
+          (fit_constant (view_of (record s { nodes = t })) store-grown.good k (subst (λ (o : Seen). k < o.constants) (sym is) h));
     }
 
 pub empty-store : (constants budget : ℕ) → IsStore (empty constants budget)

@@ -30,7 +30,12 @@ fn free_levels(alloc: Global, ops: &Ops, f: Node, constants: u32) -> Result<Vec<
 }
 
 /// The values of the slots with the images put in.
-fn moved(alloc: Global, ops: &mut Ops, slots: &[Node], images: &[(u32, Node)]) -> Result<Vec<Node>, Stop>
+fn moved(
+    alloc: Global,
+    ops: &mut Ops,
+    slots: &[Node],
+    images: &[(u32, Node)],
+) -> Result<Vec<Node>, Stop>
     requires slots { AreThere ops.old.triples slots.now }
     requires images { AreNodes ops.old.triples images.now }
     requires rise { IsStrictlyIncreasing (map (λ p. p.0) images.now) }

@@ -20,8 +20,8 @@ mod equation;
 
 use cb_dd::{DdMark, Node, Stop};
 use cb_ops::Ops;
-use equation::most_general;
 use cb_trail::Trail;
+use equation::most_general;
 use std::alloc::{AllocError, Global};
 use std::marker::Model;
 
@@ -76,7 +76,7 @@ pub struct StoreMark {
 
 impl Model for StoreMark {
     ghost use Rattle.cb_elim.specs.Unified.{HasNone, IsMostGeneral, IsReproductive, IsSolved, OnlyValues};
-ghost use Rattle.cb_elim.specs.Moments.{Moment};
+    ghost use Rattle.cb_elim.specs.Moments.{Moment};
 
     ghost Value = { Moment };
 

@@ -20,7 +20,7 @@ pub returns-in_err-remember-clause-only_nodes : goal.returns-in_err-remember-cla
 returns-in_err-remember-clause-only_nodes c = λ no.
     let e : c.remember.new.trail ≡ c.self.inside.trail = grind (arith, common_steps) in
     subst (λ (t : List Change). OnlyNodes c.args.self.now (record { constants = c.self.inside.constants; drawn = c.self.inside.drawn; free = c.self.inside.free.items; slots = c.self.inside.slots.items; trail = t; nodes = c.most_general.new.ops })) (sym e)
-      (only-nodes c.args.self.now (seen c.self.inside) c.self.view_is c.requires.store c.most_general.new.ops c.most_general.ensures.grows)
+    (only-nodes c.args.self.now (seen c.self.inside) c.self.view_is c.requires.store c.most_general.new.ops c.most_general.ensures.grows)
 
 pub returns-clause-solved : goal.returns-clause-solved
 returns-clause-solved c = λ yes.

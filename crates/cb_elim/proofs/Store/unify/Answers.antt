@@ -14,22 +14,22 @@ pub returns-in-Ok-false-clause-moments : goal.returns-in-Ok-false-clause-moments
 returns-in-Ok-false-clause-moments c =
     keeps-before c.args.self.now _
     (cut-before c.args.self.now c.solve.new.self (seen c.self-2.inside) c.self-2.view_is (c.in-Ok-false.ensures.only_nodes (not-true (Ok c.in-Ok-false.field-0) c.in-Ok-false.field-0 refl c.in-Ok-false.field-0-test)) c.mark-before.result
-      (c.mark-before.ensures ∙ ap (λ (s : Seen). length s.nodes.triples) c.self.view_is) c.cut.new.self c.cut.ensures.triples c.cut.ensures.budget c.cut.ensures.fulls)
+    (c.mark-before.ensures ∙ ap (λ (s : Seen). length s.nodes.triples) c.self.view_is) c.cut.new.self c.cut.ensures.triples c.cut.ensures.budget c.cut.ensures.fulls)
 
 pub returns-in-Ok-false-clause-store : goal.returns-in-Ok-false-clause-store
 returns-in-Ok-false-clause-store c =
     store-before c.args.self.now _ c.requires.store
     (cut-before c.args.self.now c.solve.new.self (seen c.self-2.inside) c.self-2.view_is (c.in-Ok-false.ensures.only_nodes (not-true (Ok c.in-Ok-false.field-0) c.in-Ok-false.field-0 refl c.in-Ok-false.field-0-test)) c.mark-before.result
-      (c.mark-before.ensures ∙ ap (λ (s : Seen). length s.nodes.triples) c.self.view_is) c.cut.new.self c.cut.ensures.triples c.cut.ensures.budget c.cut.ensures.fulls)
+    (c.mark-before.ensures ∙ ap (λ (s : Seen). length s.nodes.triples) c.self.view_is) c.cut.new.self c.cut.ensures.triples c.cut.ensures.budget c.cut.ensures.fulls)
 
 pub returns-in-Err-clause-moments : goal.returns-in-Err-clause-moments
 returns-in-Err-clause-moments c =
     keeps-before c.args.self.now _
     (cut-before c.args.self.now c.solve.new.self (seen c.self-2.inside) c.self-2.view_is (c.in-Err.ensures.only_nodes (stop-not-true (Err c.in-Err.stop) c.in-Err.stop refl)) c.mark-before.result
-      (c.mark-before.ensures ∙ ap (λ (s : Seen). length s.nodes.triples) c.self.view_is) c.cut-in-Err.new.self c.cut-in-Err.ensures.triples c.cut-in-Err.ensures.budget c.cut-in-Err.ensures.fulls)
+    (c.mark-before.ensures ∙ ap (λ (s : Seen). length s.nodes.triples) c.self.view_is) c.cut-in-Err.new.self c.cut-in-Err.ensures.triples c.cut-in-Err.ensures.budget c.cut-in-Err.ensures.fulls)
 
 pub returns-in-Err-clause-store : goal.returns-in-Err-clause-store
 returns-in-Err-clause-store c =
     store-before c.args.self.now _ c.requires.store
     (cut-before c.args.self.now c.solve.new.self (seen c.self-2.inside) c.self-2.view_is (c.in-Err.ensures.only_nodes (stop-not-true (Err c.in-Err.stop) c.in-Err.stop refl)) c.mark-before.result
-      (c.mark-before.ensures ∙ ap (λ (s : Seen). length s.nodes.triples) c.self.view_is) c.cut-in-Err.new.self c.cut-in-Err.ensures.triples c.cut-in-Err.ensures.budget c.cut-in-Err.ensures.fulls)
+    (c.mark-before.ensures ∙ ap (λ (s : Seen). length s.nodes.triples) c.self.view_is) c.cut-in-Err.new.self c.cut-in-Err.ensures.triples c.cut-in-Err.ensures.budget c.cut-in-Err.ensures.fulls)
