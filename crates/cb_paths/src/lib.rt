@@ -81,8 +81,8 @@ impl<'a> Paths<'a> {
         None
     }
 
-    // Goes to the next product; whether there is one.
-    fn advance(&mut self) -> bool
+    /// Goes to the next product; whether there is one. It takes no memory.
+    pub fn advance(&mut self) -> bool
         ensures some { IsTrue result → self.old.to_come ≡ self.new.product ∷ self.new.to_come }
         ensures none { IsFalse result → (self.old.to_come ≡ []) × (self.new.to_come ≡ []) }
     {
@@ -95,8 +95,8 @@ impl<'a> Paths<'a> {
         true
     }
 
-    // The product that was given last.
-    fn product(&self) -> &[(u32, bool)]
+    /// The product that was given last: its levels, rising, with their bits.
+    pub fn product(&self) -> &[(u32, bool)]
         ensures { result.now ≡ self.now.product }
     {
         self.literals.as_slice()

@@ -1,0 +1,6 @@
+pub mod Fronts
+pub mod Renamed
+pub mod Pieces
+pub mod Counts
+pub mod Shown
+pub mod Choices
