@@ -1,0 +1,10 @@
+pub mod Parts
+pub mod Left
+pub mod Remaining
+pub mod Follows
+pub mod Apart
+pub mod Sides
+pub mod Members
+pub mod Bridge
+pub mod Rules
+pub mod Ends

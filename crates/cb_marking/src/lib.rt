@@ -1,0 +1,12 @@
+//! The sorts of the variables and equations of a rule or query: the least marking.
+#![tactic(auto)]
+
+mod goals;
+mod marking;
+mod terms;
+mod walk;
+
+pub use marking::{Marking, mark_query, mark_rule};
+
+#[cfg(test)]
+mod tests;
