@@ -9,3 +9,6 @@ pub mod Changes
 pub mod Inside
 pub mod General
 pub mod Known
+pub mod Rooms
+pub mod Expressions
+pub mod Laws

@@ -9,7 +9,7 @@ use Rattle.cb_ops.specs.Ops.{Grows, StandsFor}
 use Rattle.cb_ops.proofs.Ite.{grown-function, grown-node}
 use Rattle.cb_boole.specs.Elimination.{Function}
 use Rattle.cb_boole.specs.View.{View, IsGood, IsFit}
-use Rattle.cb_boole.proofs.Grow.{fit_constant}
+use Rattle.cb_boole.proofs.Grow.{fit_constant, fit_two}
 use Rattle.cb_elim.specs.declared.Free.{Free}
 use Rattle.cb_elim.specs.Store.{Seen, IsStore, IsArgument, IsAsBefore, OnlyNodes, AreThere, IsVariableOf, stands_in, value_in, view_of, with_fulls, empty}
 
@@ -116,4 +116,11 @@ unfolding view_of
 value-argument s st x n h e = record {
   node = node-at s.nodes.triples s.slots x n st.nodes h e;
   fit = subst (λ (f : Function). IsFit (view_of s) f) (sym (value-at s.nodes.triples s.slots x n h e)) (st.good.fit x);
+}
+
+-- what a connective makes of nodes that meet the condition meets it
+pub connective-argument : (s : Seen) → IsStore s → (f g n : ℕ) (op : Bool → Bool → Bool) → IsArgument s f → IsArgument s g → IsNode s.nodes.triples n → ((p : Bits) → function_of s.nodes.triples n p ≡ op (function_of s.nodes.triples f p) (function_of s.nodes.triples g p)) → IsArgument s n
+connective-argument s st f g n op a b w is = record {
+  node = w;
+  fit = subst (λ (h : Function). IsFit (view_of s) h) (sym (fun_ext (λ p. is p))) (fit_two (view_of s) op (function_of s.nodes.triples f) (function_of s.nodes.triples g) a.fit b.fit);
 }

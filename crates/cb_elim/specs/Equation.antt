@@ -1,13 +1,14 @@
 -- The most general solution of an equation, by functions.
-use Rattle.std.specs.Prelude.{◌≡◌, ◌⊎◌, ℕ, ◌<◌, ◌≤◌, Bool, true, false, List, length}
-use Rattle.cb_model.specs.Bits.{Bits, put, xor}
+use Rattle.std.specs.Prelude.{◌≡◌, ◌⊎◌, ℕ, ◌+◌, ◌*◌, ◌^◌, ◌<◌, ◌≤◌, Bool, true, false, List, length}
+use Rattle.cb_model.specs.Bits.{Bits, Each, put, xor}
 use Rattle.cb_dd.specs.declared.Triple.{Triple}
 use Rattle.cb_dd.specs.declared.Node.{Node}
-use Rattle.cb_dd.specs.Diagram.{function_of}
+use Rattle.cb_dd.specs.Diagram.{Store, function_of}
+use Rattle.cb_ops.specs.Ops.{DependsOn}
 use Rattle.cb_ops.specs.Support.{IsListed}
 use Rattle.cb_ops.specs.Substitute.{Images, substituted}
 use Rattle.cb_boole.specs.Elimination.{Function, DependsOnly, rest, solved}
-use Rattle.cb_solution.specs.Solution.{IsFalling}
+use Rattle.cb_solution.specs.Solution.{IsFalling, ImagesWithin}
 use Rattle.cb_elim.specs.Store.{AreThere, value_in}
 
 -- where two nodes differ
@@ -42,3 +43,17 @@ pub record HasNoSolution (ts : List Triple) (constants f g : ℕ) : Type 0 where
   pub elimination : IsElimination constants (differ ts f g) levels
   pub at : Bits
   pub left : rest levels (differ ts f g) at ≡ true
+
+-- each of the nodes depends on these levels alone
+abbrev pub DependEach : List Triple → List Node → List ℕ → Type 0
+DependEach ts ns ls = Each (λ n. DependsOn ts n.0 ls) ns
+
+-- nodes that putting the images into these nodes adds at most, where all depend on the levels of the list alone
+pub record MovedRoom (ns : List Node) (images : Images) (old new : Store) : Type 0 where
+  pub most : (ls : List ℕ) → DependEach old.triples ns ls → ImagesWithin old.triples images ls →
+      length new.triples ≤ length old.triples + length ns * (2 ^ length ls * 2 ^ length ls)
+
+-- the equation adds fewer nodes than this bound, where its sides and the slots' values depend on the levels of the list alone
+pub record GeneralRoom (ns : List Node) (f g : ℕ) (old new : Store) : Type 0 where
+  pub most : (ls : List ℕ) → DependsOn old.triples f ls → DependsOn old.triples g ls → DependEach old.triples ns ls →
+      length new.triples + 1 ≤ length old.triples + 64 * (length ns + length ls + 1) * 4 ^ (length ls + 1)

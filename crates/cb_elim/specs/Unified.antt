@@ -1,15 +1,17 @@
 -- What an equation makes of a store.
-use Rattle.std.specs.Prelude.{◌≡◌, ◌≢◌, ◌↔◌, ℕ, Bool, List, ◌++◌, length, slice_get, Some}
+use Rattle.std.specs.Prelude.{◌≡◌, ◌≢◌, ◌↔◌, ℕ, ◌+◌, ◌*◌, ◌^◌, ◌<◌, Bool, List, ◌++◌, length, slice_get, Some}
 use Rattle.cb_model.specs.Bits.{Bits, Each}
 use Rattle.cb_model.specs.Equations.{Table}
 use Rattle.cb_dd.specs.declared.Node.{Node}
 use Rattle.cb_dd.specs.Diagram.{function_of}
-use Rattle.cb_ops.specs.Ops.{Grows}
+use Rattle.cb_model.specs.Outside.{Rose}
+use Rattle.cb_ops.specs.Ops.{Grows, DependsOn}
 use Rattle.cb_boole.specs.Elimination.{Function}
 use Rattle.cb_boole.specs.View.{View, InRange, point}
 use Rattle.cb_elim.specs.declared.Change.{Change}
 use Rattle.cb_elim.specs.Store.{Seen}
 use Rattle.cb_elim.specs.Moments.{undone}
+use Rattle.cb_elim.specs.Equation.{DependEach}
 
 -- The new range is what is left of the old one where the two functions agree, each free level having the bit of its
 -- variable; and something is left at every assignment.
@@ -32,6 +34,13 @@ pub record OnlyValues (old new : Seen) : Type 0 where
   pub trail : new.trail ≡ old.trail ++ changes
   pub slots : undone changes new.slots ≡ old.slots
   pub nodes : Grows old.nodes new.nodes
+
+-- A stop for nodes has its cause: the count of refusals rose, and the budget is below the nodes at the call and those
+-- that the equation may add, for each list of levels that has those on which its sides and the slots' values depend.
+pub record UnifyCause (old new : Seen) (f g : ℕ) : Type 0 where
+  pub rose : Rose old.nodes.fulls new.nodes.fulls
+  pub below : (ls : List ℕ) → DependsOn old.nodes.triples f ls → DependsOn old.nodes.triples g ls → DependEach old.nodes.triples old.slots ls →
+      old.nodes.budget < length old.nodes.triples + 64 * (length old.slots + length ls + 1) * 4 ^ (length ls + 1)
 
 -- giving each free level the bit of its variable gives each pair of the range back: Boole's solution in its reproductive form
 abbrev pub IsReproductive : View → Type 0

@@ -7,7 +7,7 @@ ghost use Rattle.cb_ops.specs.Ops.{Grows};
 ghost use Rattle.cb_ops.specs.Substitute.{AreNodes};
 ghost use Rattle.cb_solution.specs.Solution.{IsFalling, has_refused};
 ghost use Rattle.cb_elim.specs.Store.{AreThere};
-ghost use Rattle.cb_elim.specs.Equation.{AreMoved, HasNoSolution, IsElimination, IsGeneral, differ};
+ghost use Rattle.cb_elim.specs.Equation.{AreMoved, GeneralRoom, HasNoSolution, IsElimination, IsGeneral, MovedRoom};
 
 use cb_dd::{Node, Stop};
 use cb_ops::Ops;
@@ -41,6 +41,7 @@ fn moved(
     requires rise { IsStrictlyIncreasing (map (λ p. p.0) images.now) }
     ensures values { IfOk result (λ vs. AreMoved ops.old.triples ops.new.triples images.now slots.now vs.items) }
     ensures grows { Grows ops.old ops.new }
+    ensures room { MovedRoom slots.now images.now ops.old ops.new }
     ensures full { result ≡ Err Stop.Nodes → length ops.new.triples ≡ ops.new.budget }
     ensures fulls { ops.new.fulls ≡ has_refused ops.old.fulls result }
 {
@@ -68,6 +69,7 @@ pub(crate) fn most_general(
     ensures found { IfOk result (λ r. IfSome r (λ vs. IsGeneral ops.old.triples ops.new.triples constants slots.now f.0 g.0 vs.items)) }
     ensures none { IfOk result (λ r. IfNone r (HasNoSolution ops.old.triples constants f.0 g.0)) }
     ensures grows { Grows ops.old ops.new }
+    ensures room { GeneralRoom slots.now f.0 g.0 ops.old ops.new }
     ensures full { result ≡ Err Stop.Nodes → length ops.new.triples ≡ ops.new.budget }
     ensures fulls { ops.new.fulls ≡ has_refused ops.old.fulls result }
 {

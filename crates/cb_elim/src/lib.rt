@@ -5,7 +5,7 @@
 ghost use Rattle.std.specs.Prelude.{◌≡◌, ◌≢◌, ◌⊎◌, ℕ, Bool, true, false, ◌+◌, ◌-◌, ◌*◌, ◌<◌, ◌≤◌, ◌^◌, ◌↔◌, [], ◌∷◌, ◌++◌, length, map, take, drop, slice_index_or, slice_get, Some, None, Ok, Err, IfOk, OnOk, OnErr, IfSome, IfNone, IsErr, IsTrue, EachIndex, Contains, slice_index};
 ghost use Rattle.std.specs.List.Sorted.{IsStrictlyIncreasing};
 ghost use Rattle.cb_model.specs.Bits.{Bits, Each, xor};
-ghost use Rattle.cb_dd.specs.Diagram.{IsDiagram, IsNode, function_of, fulls_after};
+ghost use Rattle.cb_dd.specs.Diagram.{Store as Nodes, IsNode, function_of, fulls_after};
 ghost use Rattle.cb_ops.specs.Ops.{Grows, StandsFor};
 ghost use Rattle.cb_ops.specs.Substitute.{AreNodes};
 ghost use Rattle.std.specs.Option.{option_map};
@@ -13,15 +13,24 @@ ghost use Rattle.cb_boole.specs.Elimination.{DependsOnly};
 ghost use Rattle.cb_boole.specs.View.{InRange, IsFit};
 ghost use Rattle.cb_solution.specs.Solution.{IsFalling, has_refused};
 ghost use Rattle.cb_elim.specs.Store.{Seen, IsStore, IsArgument, IsAsBefore, OnlyNodes, AreThere, HasSameRange, IsNewVariable, empty, value_in, view_of, with_fulls};
-ghost use Rattle.cb_elim.specs.Unified.{HasNone, IsMostGeneral, IsReproductive, IsSolved, OnlyValues};
+ghost use Rattle.cb_model.specs.Values.{expr_value, in_scope};
+ghost use Rattle.std.specs.Borrow.{sem};
+ghost use Rattle.cb_elim.specs.Lending.{LendsOps};
+ghost use Rattle.cb_elim.specs.Laws.{NoneIsRefuted, RangeGrows, SolvedIsSolvable};
+ghost use Rattle.cb_elim.specs.Expression.{variable_bits};
+ghost use Rattle.cb_elim.specs.Equation.{GeneralRoom};
+ghost use Rattle.cb_elim.specs.Unified.{HasNone, IsMostGeneral, IsReproductive, IsSolved, OnlyValues, UnifyCause};
 ghost use Rattle.cb_elim.specs.Moments.{Moment, IsMoment, KeepsMoments, changes_from, moment_of, reverted, rewritten_since, undone, value_since};
 
 mod equation;
+mod expression;
 
 use cb_dd::{DdMark, Node, Stop};
+use cb_model::Expr;
 use cb_ops::Ops;
 use cb_trail::Trail;
 use equation::most_general;
+use expression::expression;
 use std::alloc::{AllocError, Global};
 use std::marker::Model;
 
@@ -75,7 +84,7 @@ pub struct StoreMark {
 }
 
 impl Model for StoreMark {
-    ghost use Rattle.cb_elim.specs.Unified.{HasNone, IsMostGeneral, IsReproductive, IsSolved, OnlyValues};
+    ghost use Rattle.cb_elim.specs.Unified.{HasNone, IsMostGeneral, IsReproductive, IsSolved, OnlyValues, UnifyCause};
     ghost use Rattle.cb_elim.specs.Moments.{Moment};
 
     ghost Value = { Moment };
@@ -123,6 +132,15 @@ impl Store {
         &self.ops
     }
 
+    /// The operations. Who borrows them leaves the budget and the nodes that stood at lending, each in its place, and
+    /// lets the count of refusals not fall: then the store is one again, and each moment is kept.
+    pub fn ops(&mut self) -> &mut Ops
+        ensures* writes_back { sem 𝓛 (LendsOps self.entry result) }
+        ensures value { result.now ≡ self.old.nodes }
+    {
+        &mut self.ops
+    }
+
     /// The value of a slot.
     pub fn value(&self, s: Slot) -> Node
         requires store { IsStore self.now }
@@ -148,6 +166,21 @@ impl Store {
         ensures fulls { self.new.nodes.fulls ≡ fulls_after self.old.nodes.fulls result }
     {
         let n = self.ops.node(k, Node::ZERO, Node::ONE)?;
+        Ok(n)
+    }
+
+    /// The node of an expression. A variable has the value of its slot; one that has none counts as 0.
+    pub fn expr(&mut self, e: &Expr, vars: &[Option<Slot>]) -> Result<Node, Stop>
+        requires store { IsStore self.old }
+        requires scope { in_scope self.old.constants (length vars.now) e.now ≡ true }
+        ensures function { IfOk result (λ n. (p : Bits) → function_of self.new.nodes.triples n.0 p ≡ expr_value p (variable_bits self.old.nodes.triples self.old.slots vars.now p) e.now) }
+        ensures argument { IfOk result (λ n. IsArgument self.new n.0) }
+        ensures only_nodes { OnlyNodes self.old self.new }
+        ensures moments { KeepsMoments self.old self.new }
+        ensures store { IsStore self.new }
+        ensures nodes { result ≡ Err Stop.Nodes → length self.new.nodes.triples ≡ self.new.nodes.budget }
+    {
+        let n = expression(&mut self.ops, &self.slots, vars, e)?;
         Ok(n)
     }
 
@@ -296,6 +329,7 @@ impl Store {
         ensures values { result ≡ Ok true → OnlyValues self.old self.new }
         ensures as_before { (result ≡ Ok true → ⊥) → IsAsBefore self.old self.new }
         ensures same_node { f ≡ g → (result ≡ Ok true) × (self.new ≡ self.old) }
+        ensures nodes { result ≡ Err Stop.Nodes → UnifyCause self.old self.new f.0 g.0 }
         ensures moments { KeepsMoments self.old self.new }
         ensures store { IsStore self.new }
     {
@@ -326,6 +360,9 @@ impl Store {
         ensures values { result ≡ Ok true → OnlyValues self.old self.new }
         ensures store { result ≡ Ok true → IsStore self.new }
         ensures only_nodes { (result ≡ Ok true → ⊥) → OnlyNodes self.old self.new }
+        ensures room { GeneralRoom self.old.slots f.0 g.0 self.old.nodes self.new.nodes }
+        ensures full { result ≡ Err Stop.Nodes → length self.new.nodes.triples ≡ self.new.nodes.budget }
+        ensures fulls { self.new.nodes.fulls ≡ has_refused self.old.nodes.fulls result }
     {
         let alloc = *self.slots.allocator();
         let found = most_general(alloc, &mut self.ops, self.constants, &self.slots, f, g)?;
@@ -343,6 +380,7 @@ fn remember(trail: &mut Trail<Change>, slots: &[Node], values: &[Node]) -> Resul
     requires { length slots.now ≡ length values.now }
     ensures changes { OnOk result (trail.new ≡ trail.old ++ changes_from 0 slots.now values.now) }
     ensures refused { OnErr result (trail.new ≡ trail.old) }
+    ensures memory { result ≡ Err Stop.Nodes → ⊥ }
 {
     let start = trail.mark();
     for (i, value) in values.iter().enumerate() {
@@ -397,9 +435,27 @@ pub fn values_are_most_general()
     ensures most_general { (s : Seen) → IsStore s → IsMostGeneral (view_of s) }
 {}
 
+/// What the range of a store is worth: it is exactly the pairs that satisfy the equations so far. So a list of equations
+/// whose last was solved is solvable at every assignment, and one whose last had no solution is refuted.
+pub fn range_is_of_the_equations()
+    ensures grows { RangeGrows }
+    ensures solvable { SolvedIsSolvable }
+    ensures refuted { NoneIsRefuted }
+{}
+
+/// A store to which nodes alone were added is one, each node that could be handed to it still can, and each moment is
+/// kept: what who borrows the operations owes, and gets.
+pub fn loans_are_safe()
+    ensures store { (s : Seen) (t : Nodes) → IsStore s → Grows s.nodes t → IsStore (record s { nodes = t }) }
+    ensures arguments { (s : Seen) (t : Nodes) → IsStore s → Grows s.nodes t → (n : ℕ) → IsArgument s n → IsArgument (record s { nodes = t }) n }
+    ensures moments { (s : Seen) (t : Nodes) → Grows s.nodes t → KeepsMoments s (record s { nodes = t }) }
+    ensures connectives { (s : Seen) → IsStore s → (f g n : ℕ) (op : Bool → Bool → Bool) → IsArgument s f → IsArgument s g → IsNode s.nodes.triples n → ((p : Bits) → function_of s.nodes.triples n p ≡ op (function_of s.nodes.triples f p) (function_of s.nodes.triples g p)) → IsArgument s n }
+{}
+
 #[cfg(test)]
 mod tests {
     use super::*;
+    use sqlite_items::Items;
     use std::test::Fail;
 
     fn is_here(store: &Store, slot: Slot) -> bool
@@ -443,6 +499,88 @@ mod tests {
         let value = store.value(Slot(0));
         assert!(rt; value != free);
         assert_eq!(rt; store.known(value)?, true);
+        Ok(())
+    }
+
+    // Whether an expression reads only so many constants and variables.
+    fn is_in_scope(e: &Expr, constants: u32, variables: usize) -> bool
+        ensures { result ≡ in_scope constants variables e.now }
+    {
+        match e {
+            Expr::Zero => true,
+            Expr::One => true,
+            Expr::Const(k) => *k < constants,
+            Expr::Var(n) => (*n as usize) < variables,
+            Expr::Not(x) => is_in_scope(x.get(), constants, variables),
+            Expr::And(xs) => {
+                for x in xs.as_slice() {
+                    if !is_in_scope(x, constants, variables) {
+                        return false;
+                    }
+                }
+                true
+            }
+            Expr::Xor(xs) => {
+                for x in xs.as_slice() {
+                    if !is_in_scope(x, constants, variables) {
+                        return false;
+                    }
+                }
+                true
+            }
+            Expr::Or(xs) => {
+                for x in xs.as_slice() {
+                    if !is_in_scope(x, constants, variables) {
+                        return false;
+                    }
+                }
+                true
+            }
+        }
+    }
+
+    // Adds the equation of two expressions.
+    fn equate(store: &mut Store, f: &Expr, g: &Expr, vars: &[Option<Slot>]) -> Result<bool, Stop>
+        requires store { IsStore store.old }
+        requires left { in_scope store.old.constants (length vars.now) f.now ≡ true }
+        requires right { in_scope store.old.constants (length vars.now) g.now ≡ true }
+        ensures store { IsStore store.new }
+    {
+        let left = store.expr(f, vars)?;
+        let right = store.expr(g, vars)?;
+        store.unify(left, right)
+    }
+
+    // The variable times the constant.
+    fn product(alloc: Global) -> Result<Expr, Fail> {
+        let mut factors = Items::new(alloc);
+        factors.push(Expr::Var(0))?;
+        factors.push(Expr::Const(0))?;
+        Ok(Expr::And(factors))
+    }
+
+    #[test]
+    fn a_product_is_the_constant(rt: HostRuntime) -> Result<(), Fail> {
+        let mut store = one_variable(rt.alloc(), 100)?;
+        let vars = [Some(Slot(0))];
+        let times = product(rt.alloc())?;
+        let a = Expr::Const(0);
+        assert!(rt; is_in_scope(&times, 1, 1) && is_in_scope(&a, 1, 1));
+        assert_eq!(rt; equate(&mut store, &times, &a, &vars), Ok(true));
+        Ok(())
+    }
+
+    #[test]
+    fn no_solution_over_constants(rt: HostRuntime) -> Result<(), Fail> {
+        let mut store = one_variable(rt.alloc(), 100)?;
+        let free = store.value(Slot(0));
+        let vars = [Some(Slot(0))];
+        let times = product(rt.alloc())?;
+        let one = Expr::One;
+        assert!(rt; is_in_scope(&times, 1, 1) && is_in_scope(&one, 1, 1));
+        assert_eq!(rt; equate(&mut store, &times, &one, &vars), Ok(false));
+        assert!(rt; is_here(&store, Slot(0)));
+        assert_eq!(rt; store.value(Slot(0)), free);
         Ok(())
     }
 }

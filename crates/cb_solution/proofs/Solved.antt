@@ -268,6 +268,14 @@ room-first s t f level lower first = record {
 pub room-none : (s : Store) (f : ℕ) → SolutionRoom f [] s s
 room-none s f = record { most = λ ls d all. omega arith }
 
+-- the images depend on no other levels than the equation
+pub solution-within : (old new : List Triple) (f : ℕ) (levels : List ℕ) (images : Images) → IsSolution old new f levels images → (ls : List ℕ) → DependsOn old f ls → ((l : ℕ) → IsListed levels l → IsListed ls l) → ImagesWithin new images ls
+solution-within old new f levels images sol ls d all = record {
+  each = λ l m e. only-into new m.0 ls (λ p. solved levels (function_of old f) p l)
+      (record { at = λ p. sym (at-some new images p l m e) ∙ ap (λ (q : Bits). q l) (sol.at p) })
+      (λ p q h. solved_alike (IsListed ls) levels (function_of old f) (only-from old f ls d) p q h l (all l (sol.within l (image-listed images l m e))));
+}
+
 -- ---- lists of levels as the code takes them apart
 
 pub whole : (ls : List ℕ) → 1 ≤ length ls → get_or ls 0 0 ∷ take (length ls - 1) (drop 1 ls) ≡ ls

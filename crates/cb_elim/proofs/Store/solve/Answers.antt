@@ -1,5 +1,7 @@
-use Rattle.std.proofs.Common.{◌≡◌, List, subst, sym, arith, rules}
+use Rattle.std.proofs.Common.{◌≡◌, List, subst, sym, ap, ◌∙◌, arith}
 use Rattle.std.proofs.lemmas.Grind.{common_steps}
+use Rattle.std.proofs.lemmas.Result.{err_from_is_err_and}
+use Rattle.cb_elim.proofs.Rooms.{memory-only}
 use Rattle.cb_elim.specs.declared.Change.{Change}
 use Rattle.cb_elim.specs.Store.{Seen, OnlyNodes}
 use Rattle.cb_elim.proofs.Inside.{seen}
@@ -36,3 +38,13 @@ pub returns-clause-store : goal.returns-clause-store
 returns-clause-store c = λ yes.
     solve-store c.args.self.now (seen c.self.inside) c.self.view_is c.requires.store c.args.f.0 c.args.g.0 c.requires.f c.requires.g c.in-Some.values.items c.remember.new.trail c.most_general.new.ops
     (rw c.deref.ensures.value at (rw c.in-Some.is at c.in_ok-found.ensures.found)) (rw (c.deref-2.ensures.value, c.deref-3.ensures.value) at c.in_ok-remember.ensures.changes)
+
+pub returns-in_err-remember-clause-full : goal.returns-in_err-remember-clause-full
+returns-in_err-remember-clause-full c =
+    let p = err_from_is_err_and c.from_residual-in_err-remember.result c.from_residual-in_err-remember.ensures.1 in
+    rw (p.1, p.2) (λ e. absurd (c.in_err-remember.ensures.memory (cc e)))
+
+pub returns-in_err-remember-clause-fulls : goal.returns-in_err-remember-clause-fulls
+returns-in_err-remember-clause-fulls c =
+    let p = err_from_is_err_and c.from_residual-in_err-remember.result c.from_residual-in_err-remember.ensures.1 in
+    rw (p.1, p.2) (c.in_ok-found.ensures.fulls ∙ ap (λ (s : Seen). s.nodes.fulls) c.self.view_is ∙ sym (memory-only c.args.self.now.nodes.fulls c.in_err-remember.field-0.0 c.in_err-remember.ensures.memory))

@@ -1,0 +1,28 @@
+use Rattle.cb_elim.specs.Expression.{variable_bits}
+use Rattle.cb_elim.proofs.Inside.{seen}
+use Rattle.cb_elim.proofs.Views.{only-nodes, store-grown}
+use Rattle.cb_elim.proofs.Back.{keeps-nodes}
+use Rattle.cb_elim.proofs.Expressions.{expression-argument}
+use Rattle.cb_elim.proofs.Store.expr.Goals as goal
+
+pub returns-in_err-n-clause-only_nodes : goal.returns-in_err-n-clause-only_nodes
+returns-in_err-n-clause-only_nodes c = only-nodes c.args.self.now (seen c.self.inside) c.self.view_is c.requires.store c.expression.new.ops c.expression.ensures.grows
+
+pub returns-in_err-n-clause-moments : goal.returns-in_err-n-clause-moments
+returns-in_err-n-clause-moments c = keeps-nodes c.args.self.now (seen c.self.inside) c.expression.new.ops c.self.view_is c.expression.ensures.grows
+
+pub returns-in_err-n-clause-store : goal.returns-in_err-n-clause-store
+returns-in_err-n-clause-store c = store-grown c.args.self.now (seen c.self.inside) c.self.view_is c.requires.store c.expression.new.ops c.expression.ensures.grows
+
+pub returns-clause-argument : goal.returns-clause-argument
+returns-clause-argument c =
+    expression-argument c.args.self.now (seen c.self.inside) c.self.view_is c.requires.store c.expression.new.ops c.expression.ensures.grows c.args.vars.now c.args.e.now c.in_ok-n.n.0 c.requires.scope c.in_ok-n.ensures.is_node (rw c.deref.ensures.value at c.in_ok-n.ensures.function)
+
+pub returns-clause-only_nodes : goal.returns-clause-only_nodes
+returns-clause-only_nodes c = only-nodes c.args.self.now (seen c.self.inside) c.self.view_is c.requires.store c.expression.new.ops c.expression.ensures.grows
+
+pub returns-clause-moments : goal.returns-clause-moments
+returns-clause-moments c = keeps-nodes c.args.self.now (seen c.self.inside) c.expression.new.ops c.self.view_is c.expression.ensures.grows
+
+pub returns-clause-store : goal.returns-clause-store
+returns-clause-store c = store-grown c.args.self.now (seen c.self.inside) c.self.view_is c.requires.store c.expression.new.ops c.expression.ensures.grows

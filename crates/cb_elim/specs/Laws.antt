@@ -1,0 +1,34 @@
+-- Laws of the store: each is the contract of a function that does nothing.
+use Rattle.std.specs.Prelude.{◌≡◌, ◌↔◌, ℕ, List, [], ◌∷◌, ◌++◌, map}
+use Rattle.cb_model.specs.declared.Expr.{Expr}
+use Rattle.cb_model.specs.Bits.{Bits, Each}
+use Rattle.cb_model.specs.Values.{World, expr_value}
+use Rattle.cb_model.specs.Equations.{Solvable, Refuted}
+use Rattle.cb_laws.specs.Laws.{Equal, pair_item}
+use Rattle.cb_dd.specs.Diagram.{function_of}
+use Rattle.cb_boole.specs.View.{InRange, point}
+use Rattle.cb_elim.specs.Store.{Seen, view_of}
+use Rattle.cb_elim.specs.Unified.{HasNone, IsSolved}
+
+-- the range is exactly the pairs that satisfy the equations, each variable numbered as its slot
+abbrev pub IsRangeOf : Seen → List Equal → Type 0
+IsRangeOf s es = (a b : Bits) → InRange (view_of s) a b ↔ Each (λ e. expr_value a b e.0 ≡ expr_value a b e.1) es
+
+-- the node has the value of the expression at each pair of the range
+abbrev pub IsNodeOf : Seen → ℕ → Expr → Type 0
+IsNodeOf s f e = (a b : Bits) → InRange (view_of s) a b → function_of s.nodes.triples f (point (view_of s).stands a b) ≡ expr_value a b e
+
+-- an equation that is solved is one equation more
+abbrev pub RangeGrows : Type 0
+RangeGrows = (s t : Seen) (es : List Equal) (e : Equal) (f g : ℕ) → IsRangeOf s es → IsNodeOf s f e.0 → IsNodeOf s g e.1 →
+    IsSolved (view_of s) (view_of t) (function_of s.nodes.triples f) (function_of s.nodes.triples g) → IsRangeOf t (es ++ e ∷ [])
+
+-- then the equations are solvable
+abbrev pub SolvedIsSolvable : Type 0
+SolvedIsSolvable = (w : World) (s t : Seen) (es : List Equal) (f g : ℕ) → IsRangeOf t es →
+    IsSolved (view_of s) (view_of t) (function_of s.nodes.triples f) (function_of s.nodes.triples g) → Solvable w (map pair_item es)
+
+-- an equation without a solution refutes them all together
+abbrev pub NoneIsRefuted : Type 0
+NoneIsRefuted = (w : World) (s : Seen) (es : List Equal) (e : Equal) (f g : ℕ) → IsRangeOf s es → IsNodeOf s f e.0 → IsNodeOf s g e.1 →
+    HasNone (view_of s) (function_of s.nodes.triples f) (function_of s.nodes.triples g) → Refuted w (map pair_item (es ++ e ∷ []))
