@@ -1,21 +1,20 @@
 -- What a walk over a written term says of the same term with each `_` renamed.
-use Rattle.std.proofs.Common.{◌≡◌, ℕ, zero, suc, ◌+◌, ◌<◌, Bool, true, false, ◌&&◌, List, [], ◌∷◌, ◌++◌, length, Option, Some, None, refl, sym, ◌∙◌, ap, subst, arith, codes, bytes_eq, eqb}
+use Rattle.std.proofs.Common.{◌≡◌, ℕ, suc, Bool, true, false, ◌&&◌, List, [], ◌∷◌, ◌++◌, length, refl, sym, ◌∙◌, ap, subst, arith, codes, bytes_eq, eqb}
 use Rattle.std.specs.Bool.{if◌then◌else◌}
-use Rattle.std.proofs.lemmas.List.{append-nil}
 use Rattle.std.proofs.lemmas.Bool.{and_parts, and_from, eqb-true, false≢true}
 use Rattle.cb_model.specs.Text.{Text}
 use Rattle.cb_model.specs.declared.Sort.{Sort}
 use Rattle.cb_model.specs.declared.Sort.TheVariants as sort
 use Rattle.cb_model.specs.Grammar.{Form, Forms, Variable, Integer, Name, Closed, Open, Not, And, Xor, Or, Last, More}
 use Rattle.cb_model.specs.Directives.{Sign, Declared, same_sign, count_of, sorts_of}
-use Rattle.cb_model.specs.Sorts.{Place, renamed, apart, apart_all, form_sort, below, operand_places, argument_places, call_places, circuit_sign}
+use Rattle.cb_model.specs.Sorts.{Place, renamed, apart, apart_all, below, operand_places, argument_places, call_places, circuit_sign}
 use Rattle.cb_model.specs.Loading.{variables_of, variables_in}
 use Rattle.cb_model.specs.Written.{is_name}
 use Rattle.cb_marking.specs.declared.walk.Walk.{Walk}
-use Rattle.cb_marking.specs.Places.{place_fits, is_bit}
-use Rattle.cb_marking.specs.Walk.{name_at, own_after, at, side_at, side_walked, noted, gave_some, walked, all_fit}
+use Rattle.cb_marking.specs.Places.{place_fits}
+use Rattle.cb_marking.specs.Walk.{name_at, own_after, at, walked, all_fit}
 use Rattle.cb_marking.proofs.Left.{walked-append, all_fit-append}
-use Rattle.cb_marking.proofs.Follows.{Follows, Follows-none, Follows-same, Follows-then, Follows-at, Follows-link, Follows-note, renamed_is, is_there, all_there, numbered, numbered-append, given_at, given_some, bit_at}
+use Rattle.cb_marking.proofs.Follows.{Follows, Follows-none, Follows-same, Follows-then, Follows-at, renamed_is, is_there, all_there, numbered, numbered-append, given_at}
 
 abbrev pub is_var : Form → Bool
 is_var (Variable x) = true

@@ -1,11 +1,11 @@
 -- From what a walk knows to the least marking.
-use Rattle.std.proofs.Common.{◌≡◌, ◌≢◌, ℕ, zero, suc, ◌+◌, ◌-◌, ◌<◌, ◌≤◌, Bool, true, false, not, ◌&&◌, ◌||◌, cond, List, [], ◌∷◌, ◌++◌, length, get_or, slice_get, Option, Some, None, nat_lt, position, refl, sym, ◌∙◌, ap, subst, arith, inl, inr, bytes_eq, pos, negsuc, length-append}
-use Rattle.std.specs.Prelude.{◌⊎◌, Contains, ℤ, unwrap_or}
+use Rattle.std.proofs.Common.{◌≡◌, ◌≢◌, ℕ, zero, suc, ◌+◌, ◌-◌, ◌<◌, Bool, true, false, not, ◌||◌, cond, List, [], ◌∷◌, ◌++◌, length, get_or, slice_get, Option, Some, None, nat_lt, refl, sym, ◌∙◌, ap, subst, arith, inl, inr, bytes_eq, pos, negsuc, length-append}
+use Rattle.std.specs.Prelude.{◌⊎◌, Contains}
 use Rattle.std.specs.Bool.{if◌then◌else◌}
-use Rattle.std.specs.List.{list_any, list_all, position_or_len}
+use Rattle.std.specs.List.{list_any, position_or_len}
 use Rattle.std.proofs.lemmas.List.{get_or_append_left, get_or-append-add}
 use Rattle.std.proofs.lemmas.List.Elements.{Contains-append_left, Contains-append_right, Contains-append_cases}
-use Rattle.std.proofs.lemmas.Bool.{and_parts, false≢true, lt-ltb, le-ltb, cases_lt}
+use Rattle.std.proofs.lemmas.Bool.{false≢true, lt-ltb, le-ltb}
 use Rattle.std.proofs.lemmas.Slice.Eq.{bytes_eq-Decides}
 use Rattle.cb_model.specs.Text.{Text}
 use Rattle.cb_model.specs.declared.Sort.{Sort}
@@ -14,17 +14,17 @@ use Rattle.cb_model.specs.Grammar.{Form, Variable, Integer, Name, Closed, Open, 
 use Rattle.cb_model.specs.Directives.{Declared}
 use Rattle.cb_model.specs.Sorts.{Place, Body, Subject, Var, Equation, IsSide, left, right, Marked, at_place, by_form, from_side, to_side, HasSort as HasTheSort, IsBit, Clash, two_marks, wrong_place, wrong_side, bit_at_bus, bit_of_bus, form_sort, number_in, head_places, goals_places, goal_places, all_places}
 use Rattle.cb_model.specs.Loading.{body_variables, HaveSorts, no_sorts, more_sorts}
-use Rattle.cb_marks.specs.Marks.{HasSort, given, along, back, IsWithin, HasOneSort, AreSorts}
+use Rattle.cb_marks.specs.Marks.{HasSort, given, along, back, HasOneSort}
 use Rattle.cb_marks.specs.declared.Stop.{Stop}
 use Rattle.cb_marks.specs.declared.Stop.TheVariants as stop
 use Rattle.cb_marking.specs.declared.walk.Walk.{Walk}
-use Rattle.cb_marking.specs.Places.{is_bit, is_truth_value, same_sort, sort_fits, place_fits}
+use Rattle.cb_marking.specs.Places.{is_bit, same_sort, sort_fits, place_fits}
 use Rattle.cb_marking.specs.Walk.{thing_of, all_fit}
 use Rattle.cb_marking.specs.Marking.{Sorted, IsMarking, Refuses}
 use Rattle.cb_marking.specs.Kept.{IsKept, Decides, Undecided}
 use Rattle.cb_marking.proofs.Follows.{IsDistinct, any_within, at_first, numbered, all_there, there_within}
 use Rattle.cb_marking.proofs.Sides.{goal_given, goal_edges, goal_bits, goal_met, each}
-use Rattle.cb_marking.proofs.Members.{none_in, numbered_has, numbered_whole, there_at, fits_at, misfit_at, each_has, each_whole, places_each, HasSide, goal_has, goal_place, goal_form_given, goal_edge, goal_linked, place_met, side_is_met, goal_bit, goal_bit_noted}
+use Rattle.cb_marking.proofs.Members.{numbered_has, numbered_whole, there_at, fits_at, misfit_at, each_has, each_whole, places_each, HasSide, goal_has, goal_place, goal_form_given, goal_edge, goal_linked, place_met, side_is_met, goal_bit, goal_bit_noted}
 
 -- what a walk over a body knows
 pub record Known (d : Declared) (b : Body) (w : Walk) : Type 0 where

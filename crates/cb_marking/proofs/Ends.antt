@@ -7,7 +7,6 @@ use Rattle.cb_model.specs.declared.Sort.{Sort}
 use Rattle.cb_model.specs.declared.Sort.TheVariants as sort
 use Rattle.cb_marks.specs.Marks.{HasSort, AreSorts, HasOneSort}
 use Rattle.cb_marking.specs.declared.walk.Walk.{Walk}
-use Rattle.cb_marking.specs.Marking.{Sorted}
 use Rattle.cb_marking.specs.Kept.{IsKept, Decides}
 
 module _ (sorts : List Sort) (equations : List ℕ) where

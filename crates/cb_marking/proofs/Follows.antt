@@ -1,22 +1,19 @@
 -- What a walk adds to what is known.
-use Rattle.std.proofs.Common.{◌≡◌, ℕ, zero, suc, ◌+◌, ◌<◌, Bool, true, false, not, ◌&&◌, ◌||◌, cond, List, [], ◌∷◌, ◌++◌, length, Option, Some, None, position, nat_lt, refl, sym, ◌∙◌, ap, subst, arith, bytes_eq, codes, append_assoc, length-append, get_or, inl, inr, ◌≤◌}
+use Rattle.std.proofs.Common.{◌≡◌, ℕ, zero, suc, ◌+◌, ◌<◌, Bool, true, false, not, ◌&&◌, ◌||◌, cond, List, [], ◌∷◌, ◌++◌, length, Option, Some, None, position, nat_lt, refl, sym, ◌∙◌, ap, arith, bytes_eq, codes, append_assoc, length-append, get_or, inl, inr, ◌≤◌}
 use Rattle.std.specs.Prelude.{unwrap_or, ◌⊎◌}
 use Rattle.std.specs.Bool.{if◌then◌else◌}
 use Rattle.std.specs.List.{list_any, list_all, position_or_len}
 use Rattle.std.proofs.lemmas.List.{append-nil, get_or_append_left, get_or_push}
-use Rattle.std.proofs.lemmas.Bool.{and_parts, and_from, or_parts, cases_lt, lt-ltb, cond-true, false≢true}
+use Rattle.std.proofs.lemmas.Bool.{and_parts, and_from, or_parts, cases_lt, lt-ltb, cond-true}
 use Rattle.std.proofs.lemmas.Slice.Eq.{bytes_eq-Decides}
 use Rattle.cb_model.specs.Text.{Text}
 use Rattle.cb_model.specs.declared.Sort.{Sort}
 use Rattle.cb_model.specs.declared.Sort.TheVariants as sort
 use Rattle.cb_model.specs.Grammar.{Form, Variable}
-use Rattle.cb_model.specs.Directives.{Declared}
-use Rattle.cb_model.specs.Sorts.{Place, own_name, renamed, number_in, form_sort}
-use Rattle.cb_model.specs.Loading.{add_name, variables_of}
+use Rattle.cb_model.specs.Sorts.{Place, own_name, renamed, number_in}
+use Rattle.cb_model.specs.Loading.{add_name}
 use Rattle.cb_marking.specs.declared.walk.Walk.{Walk}
-use Rattle.cb_marking.specs.Places.{place_fits, is_bit}
-use Rattle.cb_marking.specs.Walk.{name_at, own_after, saw, thing_of, gave, linked, noted, gave_some, at, walked, all_fit}
-use Rattle.cb_marking.proofs.Left.{walked-append, all_fit-append}
+use Rattle.cb_marking.specs.Walk.{name_at, own_after, saw, thing_of, linked, noted, gave_some, at}
 
 -- ---- lists that go on
 

@@ -1,6 +1,6 @@
 -- A walk, with the places that are left.
 use Rattle.std.specs.Prelude.{MatchResult}
-use Rattle.std.proofs.Common.{◌≡◌, ℕ, zero, suc, ◌<◌, ◌≤◌, Bool, true, false, ◌&&◌, List, [], ◌∷◌, ◌++◌, length, drop, Result, Ok, Err, refl, sym, ◌∙◌, ap, subst, arith}
+use Rattle.std.proofs.Common.{◌≡◌, Bool, true, false, ◌&&◌, List, [], ◌∷◌, ◌++◌, Result, Ok, Err, refl, sym, ◌∙◌, ap}
 use Rattle.cb_model.specs.Directives.{Declared}
 use Rattle.cb_model.specs.Sorts.{Place}
 use Rattle.cb_marks.specs.declared.Stop.{Stop}

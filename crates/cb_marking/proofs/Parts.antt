@@ -1,5 +1,5 @@
 -- Written terms and the sorts of their arguments.
-use Rattle.std.proofs.Common.{◌≡◌, ◌≢◌, ℕ, zero, suc, ◌+◌, ◌*◌, ◌<◌, ◌≤◌, Bool, true, false, ◌&&◌, ◌==◌, eqb, codes, bytes_eq, List, [], ◌∷◌, ◌++◌, map, length, drop, get_or, slice_get, Option, Some, None, refl, sym, ◌∙◌, ap, subst, arith, Bor, add-one}
+use Rattle.std.proofs.Common.{◌≡◌, ℕ, zero, suc, ◌+◌, ◌*◌, ◌<◌, ◌≤◌, Bool, true, false, ◌&&◌, ◌==◌, eqb, codes, bytes_eq, List, [], ◌∷◌, ◌++◌, map, length, drop, get_or, slice_get, Option, Some, None, refl, sym, ◌∙◌, ap, arith, Bor}
 use Rattle.std.specs.Prelude.{unwrap_or}
 use Rattle.std.specs.Option.{option_map}
 use Rattle.std.specs.Bool.{if◌then◌else◌}
@@ -13,7 +13,7 @@ use Rattle.cb_model.specs.declared.RawTerm.{RawTerm}
 use Rattle.cb_model.specs.declared.RawTerm.TheVariants as raw
 use Rattle.cb_model.specs.declared.RawTerm.TheOpen.{RawTerm-F}
 use Rattle.cb_model.specs.declared.RawTerm.TheFolds.{fold-RawTerm, fold-roll-RawTerm}
-use Rattle.cb_model.specs.Grammar.{Form, Forms, Name, Closed, Open, Not, And, Xor, Or, Last, More}
+use Rattle.cb_model.specs.Grammar.{Form, Forms, Name, Closed, Open, Not, And, Xor, Or, Last}
 use Rattle.cb_model.specs.Forms.{form_of, forms_of, form_step}
 use Rattle.cb_model.specs.Written.{is_written, are_written, parts_of, parts_in, has_one, has_two}
 use Rattle.cb_model.specs.Directives.{Sign, same_sign, count_of, looked_up, Declared, nothing, sorts_of}

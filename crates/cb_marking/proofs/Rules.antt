@@ -1,16 +1,12 @@
 -- The walk over a rule or query, from its beginning.
-use Rattle.std.specs.Prelude.{MatchResult, ◌⊎◌}
-use Rattle.std.proofs.Common.{◌≡◌, ℕ, zero, suc, ◌+◌, ◌<◌, ◌≤◌, Bool, true, false, ◌&&◌, List, [], ◌∷◌, ◌++◌, map, length, get_or, Option, Some, None, Result, Ok, Err, refl, sym, ◌∙◌, ap, subst, arith, inl, inr}
+use Rattle.std.specs.Prelude.{MatchResult}
+use Rattle.std.proofs.Common.{◌≡◌, ℕ, suc, Bool, true, ◌&&◌, List, [], ◌∷◌, ◌++◌, length, Option, Some, None, Result, Ok, Err, refl, sym, ◌∙◌, ap, subst, arith}
 use Rattle.std.specs.List.{list_all}
-use Rattle.std.proofs.lemmas.Bool.{and_parts}
 use Rattle.cb_model.specs.Text.{Text}
-use Rattle.cb_model.specs.declared.Sort.{Sort}
-use Rattle.cb_model.specs.declared.RawGoal.{RawGoal}
-use Rattle.cb_model.specs.Grammar.{Form, FormGoal, ACall, AnEqual}
-use Rattle.cb_model.specs.Forms.{goal_form}
-use Rattle.cb_model.specs.Written.{is_name, is_written, goal_written}
+use Rattle.cb_model.specs.Grammar.{Form, FormGoal}
+use Rattle.cb_model.specs.Written.{is_name, goal_written}
 use Rattle.cb_model.specs.Directives.{Sign, Declared, sorts_of}
-use Rattle.cb_model.specs.Sorts.{Place, Body, apart, apart_goal, apart_goals, Clash, call_places, goals_places, all_places, head_places}
+use Rattle.cb_model.specs.Sorts.{Place, Body, apart, apart_goal, apart_goals, call_places, goals_places, all_places, head_places}
 use Rattle.cb_model.specs.Loading.{body_of, query_body, variables_of, goals_variables, body_variables}
 use Rattle.cb_marks.specs.declared.Stop.{Stop}
 use Rattle.cb_marks.specs.declared.Stop.TheVariants as stop
@@ -19,9 +15,9 @@ use Rattle.cb_marking.specs.Walk.{fresh, walked, goals_walked, all_fit, Walks, M
 use Rattle.cb_marking.specs.Marking.{Sorted, IsMarking, Refuses}
 use Rattle.cb_marking.specs.Kept.{IsKept, Decides, Undecided}
 use Rattle.cb_marking.proofs.Left.{all_fit-append}
-use Rattle.cb_marking.proofs.Follows.{Follows, Follows-none, Extends-same, Extends-then, numbered, IsDistinct}
+use Rattle.cb_marking.proofs.Follows.{Follows, Follows-none, Extends-same, numbered, IsDistinct}
 use Rattle.cb_marking.proofs.Apart.{call_renames, Renames}
-use Rattle.cb_marking.proofs.Sides.{goal_given, goal_edges, goal_bits, goal_met, each, goals_follow, fits_call, fits_goals}
+use Rattle.cb_marking.proofs.Sides.{goal_given, goal_edges, goal_bits, each, goals_follow, fits_call, fits_goals}
 use Rattle.cb_marking.proofs.Bridge.{Known, kept, undecided, marking, misfit_clashes}
 
 length_apart : (gs : List FormGoal) (k : ℕ) → length (apart_goals gs k) ≡ length gs

@@ -1,19 +1,19 @@
 -- What a walk over written goals says of the same goals with each `_` renamed.
-use Rattle.std.proofs.Common.{◌≡◌, ℕ, zero, suc, ◌+◌, ◌<◌, Bool, true, false, ◌&&◌, List, [], ◌∷◌, ◌++◌, length, Option, Some, None, refl, sym, ◌∙◌, ap, subst, arith, append_assoc}
+use Rattle.std.proofs.Common.{◌≡◌, ℕ, suc, Bool, true, false, ◌&&◌, List, [], ◌∷◌, ◌++◌, length, Option, refl, sym, ◌∙◌, ap, subst}
 use Rattle.std.specs.List.{list_all}
 use Rattle.std.proofs.lemmas.List.{append-nil}
-use Rattle.std.proofs.lemmas.Bool.{and_parts, and_from, false≢true}
+use Rattle.std.proofs.lemmas.Bool.{and_parts}
 use Rattle.cb_model.specs.Text.{Text}
 use Rattle.cb_model.specs.declared.Sort.{Sort}
 use Rattle.cb_model.specs.declared.Sort.TheVariants as sort
 use Rattle.cb_model.specs.Grammar.{Form, Forms, Variable, Integer, Name, Closed, Open, Not, And, Xor, Or, Last, More, FormGoal, ACall, AnEqual}
 use Rattle.cb_model.specs.Directives.{Sign, Declared, sorts_of}
-use Rattle.cb_model.specs.Sorts.{Place, renamed, apart, apart_all, apart_goal, apart_goals, form_sort, below, call_places, goal_places, goals_places}
+use Rattle.cb_model.specs.Sorts.{Place, apart, apart_all, apart_goal, apart_goals, form_sort, below, call_places, goal_places, goals_places}
 use Rattle.cb_model.specs.Loading.{variables_of, variables_in, goals_variables}
 use Rattle.cb_model.specs.Written.{is_name, is_written, goal_written}
 use Rattle.cb_marking.specs.declared.walk.Walk.{Walk}
 use Rattle.cb_marking.specs.Places.{is_bit}
-use Rattle.cb_marking.specs.Walk.{fresh, name_at, own_after, thing_of, side_at, side_walked, goal_walked, goals_walked, noted, gave_some, walked, all_fit}
+use Rattle.cb_marking.specs.Walk.{fresh, name_at, own_after, thing_of, side_walked, goal_walked, goals_walked, noted, gave_some, walked, all_fit}
 use Rattle.cb_marking.proofs.Left.{all_fit-append}
 use Rattle.cb_marking.proofs.Follows.{Follows, Follows-none, Follows-same, Follows-then, Follows-link, Follows-note, renamed_is, numbered, given_some, bit_at}
 use Rattle.cb_marking.proofs.Apart.{is_var, Renames, below_renames, call_renames}

@@ -1,5 +1,5 @@
 -- Places and what may stand there.
-use Rattle.std.specs.Prelude.{◌≡◌, ℕ, zero, suc, Bool, true, false, not, ◌&&◌, List, [], Option, Some, None, ℤ, pos}
+use Rattle.std.specs.Prelude.{ℕ, zero, suc, Bool, true, false, not, ◌&&◌, List, [], Option, Some, None, ℤ, pos}
 use Rattle.std.specs.Borrow.{Bor}
 use Rattle.cb_model.specs.declared.Sort.{Sort}
 use Rattle.cb_model.specs.declared.Sort.TheVariants as sort

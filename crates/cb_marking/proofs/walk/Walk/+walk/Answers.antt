@@ -5,8 +5,8 @@ use Rattle.cb_model.specs.Forms.{form_of, forms_of}
 use Rattle.cb_model.specs.Sorts.{Place, operand_places}
 use Rattle.cb_marking.specs.Places.{sorts_given}
 use Rattle.cb_marking.specs.Walk.{Walks, Stops}
-use Rattle.cb_marking.proofs.Parts.{inside_name, inside_open, counted_name, written_at, weight_at, smaller_name, smaller_list, smaller_and, smaller_xor, smaller_or, less_tail, less_not, term_places, operands_from, arguments_from, operands_at, arguments_at}
-use Rattle.cb_marking.proofs.Left.{left_start, left_on, left_stop, left_end, left_last}
+use Rattle.cb_marking.proofs.Parts.{inside_name, inside_open, written_at, weight_at, term_places, operands_from, arguments_from, operands_at, arguments_at}
+use Rattle.cb_marking.proofs.Left.{left_start, left_on, left_last}
 use Rattle.cb_marking.proofs.walk.Walk.+walk.Goals as goal
 
 pub inside-returns-in-Name : goal.inside-returns-in-Name

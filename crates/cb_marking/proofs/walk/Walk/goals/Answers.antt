@@ -1,5 +1,5 @@
 use Rattle.std.proofs.lemmas.Result.{err_from_is_err_and}
-use Rattle.cb_marking.proofs.Remaining.{goals_start, goals_on, goals_stop, goals_end, goal_written_at}
+use Rattle.cb_marking.proofs.Remaining.{goals_on, goals_stop, goals_end, goal_written_at}
 use Rattle.cb_marking.proofs.walk.Walk.goals.Goals as goal
 
 pub goal-requires : goal.goal-requires
