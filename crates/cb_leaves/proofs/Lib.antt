@@ -1,0 +1,4 @@
+pub mod Levels
+pub mod Nodes
+pub mod Steps
+pub mod Whole

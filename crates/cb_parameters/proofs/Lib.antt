@@ -1,0 +1,4 @@
+pub mod Picking
+pub mod Stages
+pub mod Shown
+pub mod Denoting

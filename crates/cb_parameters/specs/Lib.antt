@@ -1,0 +1,3 @@
+pub mod Parametric
+pub mod Stages
+pub mod Laws
