@@ -10,6 +10,7 @@ ghost use Rattle.cb_ops.specs.Support.{IsWithin, AllWithin, IsGathered};
 ghost use Rattle.cb_dd.specs.Diagram.{Store, IsDiagram, IsCanonical, IsNode, IsChild, IsFull, HasParts, Holds, function_of, level_of, fulls_after, parts_of, triple};
 ghost use Rattle.std.specs.List.Sorted.{IsStrictlyIncreasing};
 ghost use Rattle.cb_ops.specs.Ops.{Grows, StandsFor, IsIte, IsCofactor, Room, HasCause, DependsOn, IsFree, IsLeastTrue, IsLeastSide};
+ghost use Rattle.cb_ops.specs.Call.{IsSameCall};
 ghost use Rattle.cb_ops.specs.declared.Call.{Call};
 
 use cb_dd::{Dd, DdMark, Node, Stop};
@@ -212,9 +213,6 @@ impl Ops {
         ensures fulls { self.new.fulls ≡ fulls_after self.old.fulls result }
         ensures diagram { IsDiagram self.new.triples }
     {
-        if g.0 < f.0 {
-            return self.ite(g, f, Node::ZERO);
-        }
         self.ite(f, g, Node::ZERO)
     }
 
@@ -233,9 +231,6 @@ impl Ops {
         ensures fulls { self.new.fulls ≡ fulls_after self.old.fulls result }
         ensures diagram { IsDiagram self.new.triples }
     {
-        if g.0 < f.0 {
-            return self.ite(g, Node::ONE, f);
-        }
         self.ite(f, Node::ONE, g)
     }
 
@@ -392,6 +387,7 @@ impl Ops {
     ) -> Result<Node, Stop>
         requires f { IsNode self.old.triples f.0 }
         requires nodes { AreNodes self.old.triples list.now }
+        requires rise { IsStrictlyIncreasing (map (λ p. p.0) list.now) }
         requires done { AllSubstituted done.old self.old.triples list.now }
         ensures is_node { IfOk result (λ n. IsNode self.new.triples n.0) }
         ensures function { IfOk result (λ n. StandsFor self.new.triples n.0 (λ a.
@@ -422,7 +418,8 @@ impl Ops {
 
     // The node that replaces the level, or else the bit at the level.
     fn image(&mut self, level: u32, list: &[(u32, Node)]) -> Result<Node, Stop>
-        requires { AreNodes self.old.triples list.now }
+        requires nodes { AreNodes self.old.triples list.now }
+        requires rise { IsStrictlyIncreasing (map (λ p. p.0) list.now) }
         ensures is_node { IfOk result (λ n. IsNode self.new.triples n.0) }
         ensures function { IfOk result (λ n. StandsFor self.new.triples n.0 (λ a.
             substituted self.old.triples list.now a level)) }
@@ -573,7 +570,9 @@ impl Ops {
         if g.0 == h.0 {
             return Some(g);
         }
-        if g.0 == 1 && h.0 == 0 {
+        let then_side = then_side(f, g);
+        let else_side = else_side(f, h);
+        if then_side.0 == 1 && else_side.0 == 0 {
             return Some(f);
         }
         self.recall(f, g, h)
@@ -597,6 +596,7 @@ impl Ops {
         requires g { IsNode self.old.triples g.0 }
         requires h { IsNode self.old.triples h.0 }
         requires r { IsNode self.old.triples r.0 }
+        requires inner { 2 ≤ f.0 }
         requires ite { IsIte self.old.triples self.old.triples f.0 g.0 h.0 r.0 }
         ensures same { self.new ≡ self.old }
     {
@@ -615,6 +615,7 @@ impl Ops {
     // Clears the memo where it is full.
     fn make_room(&mut self)
         ensures same { self.new ≡ self.old }
+        ensures small { length self.new.triples < 2 ^ 63 }
     {
         let room = MEMO_ROOM.max(self.dd.count());
         if room <= self.memo.len() {
@@ -624,10 +625,11 @@ impl Ops {
     }
 }
 
-// The memo's key for a call, where the numbers fit.
+// The memo's key for a call, where the numbers fit: one for all calls that ask the same by their standard form.
 fn call_of(f: Node, g: Node, h: Node) -> Option<Call>
-    ensures { IfSome result (λ c. c ≡ record { f = f.0; g = g.0; h = h.0 }) }
+    ensures { IfSome result (λ c. IsSameCall f.0 g.0 h.0 c.f c.g c.h) }
 {
+    let (f, g, h) = standard(f, g, h);
     let Ok(f) = u32::try_from(f.0) else {
         return None;
     };
@@ -640,14 +642,51 @@ fn call_of(f: Node, g: Node, h: Node) -> Option<Call>
     Some(Call { f, g, h })
 }
 
+// The standard form of a call (Brace, Rudell and Bryant 1990): a side that is the choice itself becomes a constant,
+// and of two nodes that commute the first made stands first.
+fn standard(f: Node, g: Node, h: Node) -> (Node, Node, Node)
+    ensures { IsSameCall f.0 g.0 h.0 result.0.0 result.1.0 result.2.0 }
+{
+    let g = then_side(f, g);
+    let h = else_side(f, h);
+    if h.0 == 0 && g.0 < f.0 {
+        return (g, f, h);
+    }
+    if g.0 == 1 && h.0 < f.0 {
+        return (h, g, f);
+    }
+    (f, g, h)
+}
+
+// Where the choice is 1 it is 1 itself.
+fn then_side(f: Node, g: Node) -> Node
+    ensures { (h : ℕ) → IsSameCall f.0 g.0 h f.0 result.0 h }
+{
+    if g.0 == f.0 {
+        return Node::ONE;
+    }
+    g
+}
+
+// Where the choice is 0 it is 0 itself.
+fn else_side(f: Node, h: Node) -> Node
+    ensures { (g : ℕ) → IsSameCall f.0 g h.0 f.0 g result.0 }
+{
+    if h.0 == f.0 {
+        return Node::ZERO;
+    }
+    h
+}
+
 // The node that replaces the level, if one does.
 fn replacing(list: &[(u32, Node)], level: u32) -> Option<Node>
+    requires { IsStrictlyIncreasing (map (λ p. p.0) list.now) }
     ensures { result ≡ image_of list.now level }
 {
-    for entry in list {
-        if level == entry.0 {
-            return Some(entry.1);
-        }
+    let i = list.partition_point(|entry| entry.0 < level);
+    let entry = list.get(i)?;
+    if entry.0 == level {
+        return Some(entry.1);
     }
     None
 }

@@ -45,10 +45,10 @@ substitute_in-requires-2 t c =
     let b = c.in-Some.ensures.inner.hi_below in
     let h = c.in-Some.ensures.inner.at in
     let m = c.in-Some.ensures.inner.small in
-    (omega arith, ((grown-node c.args.self.now c.substitute_in.new.self c.substitute_in.ensures.grows c.in-Some.hi.0 c.in-Some.ensures.inner.hi_node), (grown-nodes c.args.self.now c.substitute_in.new.self c.substitute_in.ensures.grows c.args.list.now c.requires.nodes, c.substitute_in.ensures.done)))
+    (omega arith, ((grown-node c.args.self.now c.substitute_in.new.self c.substitute_in.ensures.grows c.in-Some.hi.0 c.in-Some.ensures.inner.hi_node), (grown-nodes c.args.self.now c.substitute_in.new.self c.substitute_in.ensures.grows c.args.list.now c.requires.nodes, (c.requires.rise, c.substitute_in.ensures.done))))
 
 pub image-requires : goal.image-requires
-image-requires t c = grown-nodes c.args.self.now c.substitute_in-2.new.self (Grows-then c.args.self.now c.substitute_in.new.self c.substitute_in-2.new.self c.substitute_in.ensures.grows c.substitute_in-2.ensures.grows) c.args.list.now c.requires.nodes
+image-requires t c = record { nodes = grown-nodes c.args.self.now c.substitute_in-2.new.self (Grows-then c.args.self.now c.substitute_in.new.self c.substitute_in-2.new.self c.substitute_in.ensures.grows c.substitute_in-2.ensures.grows) c.args.list.now c.requires.nodes; rise = c.requires.rise }
 
 pub returns-in_err-choice-clause-done : goal.returns-in_err-choice-clause-done
 returns-in_err-choice-clause-done t c = substitute-grows c.substitute_in-2.new.done c.substitute_in-2.new.self c.image.new.self c.args.list.now c.image.ensures.grows (grown-nodes c.args.self.now c.substitute_in-2.new.self (Grows-then c.args.self.now c.substitute_in.new.self c.substitute_in-2.new.self c.substitute_in.ensures.grows c.substitute_in-2.ensures.grows) c.args.list.now c.requires.nodes) c.substitute_in-2.ensures.done

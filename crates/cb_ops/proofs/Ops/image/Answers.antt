@@ -13,7 +13,7 @@ pub returns-in-Some-clause-function : goal.returns-in-Some-clause-function
 returns-in-Some-clause-function c = image-found c.args.self.now.triples c.args.list.now c.args.level c.in-Some.n (sym c.in-Some.ensures)
 
 pub returns-in-Some-clause-is_node : goal.returns-in-Some-clause-is_node
-returns-in-Some-clause-is_node c = image-node c.args.self.now.triples c.args.list.now c.args.level c.in-Some.n c.requires (sym c.in-Some.ensures)
+returns-in-Some-clause-is_node c = image-node c.args.self.now.triples c.args.list.now c.args.level c.in-Some.n c.requires.nodes (sym c.in-Some.ensures)
 
 pub returns-clause-function : goal.returns-clause-function
 returns-clause-function c = image-bit c.args.self.now c.node.new.self c.args.list.now c.args.level c.in_ok-n.n.0 (sym c.in_default.ensures) c.in_ok-n.ensures.function
