@@ -44,3 +44,10 @@ pub fn xor(ops: &mut Ops, f: Node, g: Node) -> Result<Node, Stop> {
     }
     ops.xor(f, g)
 }
+
+pub fn restrict(ops: &mut Ops, f: Node, level: u32, bit: bool) -> Result<Node, Stop> {
+    if !is_here(ops, f) {
+        return Err(Stop::Memory);
+    }
+    ops.restrict(f, level, bit)
+}

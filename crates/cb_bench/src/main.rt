@@ -1,9 +1,10 @@
 //! Builds diagrams and tells how many nodes were made and how long it took. The words are the name of what is built,
-//! `adder`, `multiplier` or `queens`, and its size; with no words it does nothing.
+//! `adder`, `deep`, `multiplier` or `queens`, and its size; with no words it does nothing.
 #![tactic(auto)]
 
 mod adder;
 mod checked;
+mod deep;
 mod multiplier;
 mod queens;
 
@@ -18,7 +19,7 @@ fn main(rt: HostRuntime) -> Result<(), Fail> {
     let (Some(name), Some(size)) = (words.next(), words.next()) else {
         return Ok(());
     };
-    let size = size.as_str().parse::<u32>().unwrap_or(0).min(1000);
+    let size = size.as_str().parse::<u32>().unwrap_or(0);
     run(&rt, name.as_str(), size)
 }
 
@@ -37,6 +38,9 @@ fn build(rt: &HostRuntime, ops: &mut Ops, name: &str, size: u32) -> Result<(), S
     if name == "queens" {
         queens::build(ops, size)?;
         return Ok(());
+    }
+    if name == "deep" {
+        return deep::build(ops, size);
     }
     adder::build(ops, size)?;
     Ok(())

@@ -49,7 +49,7 @@ xor-if : (x y : Bool) → (if x then not y else y) ≡ xor x y
 xor-if true y = refl
 xor-if false y = refl
 
-xor-comm : (x y : Bool) → xor x y ≡ xor y x
+pub xor-comm : (x y : Bool) → xor x y ≡ xor y x
 xor-comm true true = refl
 xor-comm true false = refl
 xor-comm false true = refl

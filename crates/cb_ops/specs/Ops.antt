@@ -1,6 +1,6 @@
 -- What the operations on diagrams promise.
 use Rattle.std.specs.Prelude.{◌≡◌, ◌≢◌, ℕ, ◌+◌, ◌*◌, ◌<◌, ◌≤◌, ◌^◌, Bool, true, false, List, [], ◌∷◌, ◌++◌, map, length, if◌then◌else◌}
-use Rattle.cb_model.specs.Bits.{Bits, put, weight}
+use Rattle.cb_model.specs.Bits.{Bits, put, weight, xor}
 use Rattle.cb_model.specs.Outside.{Rose}
 use Rattle.cb_dd.specs.declared.Triple.{Triple}
 use Rattle.cb_dd.specs.Diagram.{Store, IsNode, function_of, level_of}
@@ -46,6 +46,10 @@ pub record HasCause (ns : List ℕ) (times : ℕ) (old new : Store) : Type 0 whe
 -- node r is node g where node f is 1, and node h where it is 0
 abbrev pub IsIte : List Triple → List Triple → ℕ → ℕ → ℕ → ℕ → Type 0
 IsIte old new f g h r = StandsFor new r (λ a. if function_of old f a then function_of old g a else function_of old h a)
+
+-- node r is 1 where exactly one of f and g is
+abbrev pub IsXor : List Triple → List Triple → ℕ → ℕ → ℕ → Type 0
+IsXor old new f g r = StandsFor new r (λ a. xor (function_of old f a) (function_of old g a))
 
 -- node r is node n with the bit at a level that is below the level of r
 pub record IsCofactor (ts : List Triple) (n level : ℕ) (bit : Bool) (r : ℕ) : Type 0 where
