@@ -1,0 +1,11 @@
+//! Programs: the rules of a file with the sorts of their variables, and queries over them.
+#![tactic(auto)]
+
+mod chained;
+mod loading;
+mod names;
+mod program;
+
+pub use cb_directives::LoadError;
+pub use loading::load;
+pub use program::Program;
