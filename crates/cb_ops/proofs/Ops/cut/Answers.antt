@@ -9,10 +9,9 @@ use Rattle.cb_ops.proofs.Ops.cut.Goals as goal
 pub invariant_of-self : goal.invariant_of-self
 invariant_of-self c =
     let e : c.self.inside.dd.triples ≡ c.args.self.now.triples = ap (λ s. s.triples) c.self.view_is in
-    let kept : c.self.inside.bound ≤ length (take c.args.to c.self.inside.dd.triples) + 2 = omega (arith, length-take c.args.to c.self.inside.dd.triples, ap length e) in
-    (
+    let kept : c.self.inside.bound ≤ length (take c.args.to c.self.inside.dd.triples) + 2 = omega (arith, length-take c.args.to c.self.inside.dd.triples, ap length e) in (
       subst (IsMemo c.self.inside.memo c.self.inside.bound) (sym c.cut.ensures.triples)
-      (IsMemo-cut c.self.inside.memo c.self.inside.bound c.self.inside.dd.triples c.args.to (subst IsDiagram c.cut.ensures.triples c.cut.ensures.diagram) kept c.self.invariant.0),
+          (IsMemo-cut c.self.inside.memo c.self.inside.bound c.self.inside.dd.triples c.args.to (subst IsDiagram c.cut.ensures.triples c.cut.ensures.diagram) kept c.self.invariant.0),
       subst (IsPairs c.self.inside.pairs c.self.inside.bound) (sym c.cut.ensures.triples)
-      (IsPairs-cut c.self.inside.pairs c.self.inside.bound c.self.inside.dd.triples c.args.to kept c.self.invariant.1),
+          (IsPairs-cut c.self.inside.pairs c.self.inside.bound c.self.inside.dd.triples c.args.to kept c.self.invariant.1),
     )

@@ -32,11 +32,12 @@ invariant_of-self c =
     let kept = subst (λ (n : ℕ). IsAnswer c.self.inside.dd.triples top c.in-Some.call n) (sym c.in-Ok.ensures.1)
     (subst (λ (s : Store). IsAnswer s.triples top c.in-Some.call c.args.r.0) (sym e) made) in
     let wide : c.self.inside.bound ≤ c.max-self-inside.result = omega arith in
-    let room : c.max-self-inside.result ≤ length c.self.inside.dd.triples + 2 = omega (arith, q.f, q.g, q.h, q.r, long, c.self.invariant.0.within) in
-    (either-way c.insert.result c.insert.ensures.updates c.insert.ensures.err
-    (λ u. IsMemo-insert c.self.inside.memo c.insert.new.self c.self.inside.bound c.max-self-inside.result c.self.inside.dd.triples c.self.invariant.0 wide room c.in-Some.call c.in-Ok.answer kept u.0)
-    (λ u. IsMemo-same c.self.inside.memo c.insert.new.self c.self.inside.bound c.max-self-inside.result c.self.inside.dd.triples c.self.invariant.0 wide room u),
-    IsPairs-wide c.self.inside.pairs c.self.inside.bound c.max-self-inside.result c.self.inside.dd.triples wide c.self.invariant.1)
+    let room : c.max-self-inside.result ≤ length c.self.inside.dd.triples + 2 = omega (arith, q.f, q.g, q.h, q.r, long, c.self.invariant.0.within) in (
+      either-way c.insert.result c.insert.ensures.updates c.insert.ensures.err
+          (λ u. IsMemo-insert c.self.inside.memo c.insert.new.self c.self.inside.bound c.max-self-inside.result c.self.inside.dd.triples c.self.invariant.0 wide room c.in-Some.call c.in-Ok.answer kept u.0)
+          (λ u. IsMemo-same c.self.inside.memo c.insert.new.self c.self.inside.bound c.max-self-inside.result c.self.inside.dd.triples c.self.invariant.0 wide room u),
+      IsPairs-wide c.self.inside.pairs c.self.inside.bound c.max-self-inside.result c.self.inside.dd.triples wide c.self.invariant.1,
+    )
 
 pub overflow_add-largest : goal.overflow_add-largest
 overflow_add-largest c =

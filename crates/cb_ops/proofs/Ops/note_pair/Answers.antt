@@ -29,12 +29,11 @@ invariant_of-self c =
     let kept = subst (λ (n : ℕ). IsPairAnswer c.self.inside.dd.triples top c.in-Some.pair n) (sym c.in-Ok.ensures.1)
     (subst (λ (s : Store). IsPairAnswer s.triples top c.in-Some.pair c.args.r.0) (sym e) made) in
     let wide : c.self.inside.bound ≤ top = omega arith in
-    let room : top ≤ length c.self.inside.dd.triples + 2 = omega (arith, q.f, q.g, q.r, long, c.self.invariant.0.within) in
-    (
+    let room : top ≤ length c.self.inside.dd.triples + 2 = omega (arith, q.f, q.g, q.r, long, c.self.invariant.0.within) in (
       IsMemo-same c.self.inside.memo c.self.inside.memo c.self.inside.bound top c.self.inside.dd.triples c.self.invariant.0 wide room refl,
       either-way c.insert.result c.insert.ensures.updates c.insert.ensures.err
-      (λ u. IsPairs-insert c.self.inside.pairs c.insert.new.self c.self.inside.bound top c.self.inside.dd.triples c.self.invariant.1 wide c.in-Some.pair c.in-Ok.answer kept u.0)
-      (λ u. IsPairs-same c.self.inside.pairs c.insert.new.self c.self.inside.bound top c.self.inside.dd.triples c.self.invariant.1 wide u),
+          (λ u. IsPairs-insert c.self.inside.pairs c.insert.new.self c.self.inside.bound top c.self.inside.dd.triples c.self.invariant.1 wide c.in-Some.pair c.in-Ok.answer kept u.0)
+          (λ u. IsPairs-same c.self.inside.pairs c.insert.new.self c.self.inside.bound top c.self.inside.dd.triples c.self.invariant.1 wide u),
     )
 
 pub overflow_add-largest : goal.overflow_add-largest
