@@ -1,0 +1,177 @@
+-- The values of slots, and what their parametric form says of the store.
+use Rattle.std.proofs.Common.{◌≡◌, ◌⊎◌, inl, inr, ◌↔◌, ℕ, zero, suc, ◌+◌, ◌-◌, ◌*◌, ◌<◌, ◌≤◌, ◌^◌, min, Bool, List, [], ◌∷◌, ◌++◌, map, length, take, drop, get_or, Result, Err, refl, sym, ap, ap₂, ◌∙◌, subst, append-nil, arith}
+use Rattle.std.proofs.lemmas.List.{take_more, take_all}
+use Rattle.cb_model.specs.Bits.{Bits, Each, numbers_from}
+use Rattle.cb_model.specs.Answers.{Gen}
+use Rattle.cb_model.specs.Outside.{Rose}
+use Rattle.cb_dd.specs.declared.Triple.{Triple}
+use Rattle.cb_dd.specs.declared.Node.{Node}
+use Rattle.cb_dd.specs.Diagram.{Store, IsNode, function_of}
+use Rattle.cb_ops.specs.Ops.{Grows}
+use Rattle.cb_boole.specs.Elimination.{Function, DependsOnly}
+use Rattle.cb_boole.specs.View.{View, IsFit, IsGood, IsLive}
+use Rattle.cb_boole.proofs.Only.{weaker}
+use Rattle.cb_elim.specs.declared.Slot.{Slot}
+use Rattle.cb_elim.specs.Store.{Seen, IsStore, IsArgument, view_of, value_in, stands_in, AreThere}
+use Rattle.cb_elim.specs.Moments.{KeepsMoments}
+use Rattle.cb_elim.proofs.Back.{Later, keeps, store-drawn, argument-drawn}
+use Rattle.cb_elim.proofs.Views.{store-still, argument-still}
+use Rattle.cb_parameters.specs.Parametric.{Reaches, Allows, values_at}
+use Rattle.cb_parameters.proofs.Shown.{reaches_allows, gen_same}
+use Rattle.cb_leaves.specs.Leaves.{functions_of, AllNodes, AllBelow, AllDepend, AreParametric, ParametricRoom, ParametricCause}
+use Rattle.cb_project.specs.Answer.{AreSlots, slot_nodes, slot_values, IsAnswer}
+
+-- ---- the values
+
+pub slots-more : (s : Seen) (xs : List Slot) (x : Slot) → slot_nodes s (xs ++ x ∷ []) ≡ slot_nodes s xs ++ get_or s.slots x.0 (record { 0 = 0 }) ∷ []
+slots-more s [] x = refl
+slots-more s (y ∷ xs) x = ap (λ l. get_or s.slots y.0 (record { 0 = 0 }) ∷ l) (slots-more s xs x)
+
+other-default : (ns : List Node) (k : ℕ) (a b : Node) → k < length ns → get_or ns k a ≡ get_or ns k b
+other-default [] k a b lt = absurd (omega arith)
+other-default (n ∷ ns) zero a b lt = refl
+other-default (n ∷ ns) (suc k) a b lt = other-default ns k a b (omega arith)
+
+pub slot-there : (s : Seen) (leaves : List Slot) (i : ℕ) (d : Slot) → AreSlots s leaves → i < length leaves → (get_or leaves i d).0 < length s.slots
+slot-there s [] i d are lt = absurd (omega arith)
+slot-there s (l ∷ leaves) zero d are lt = are.0
+slot-there s (l ∷ leaves) (suc i) d are lt = slot-there s leaves i d are.1 (omega arith)
+
+-- one value more
+pub slots-next : (s : Seen) (leaves : List Slot) (i : ℕ) (d : Slot) (n : Node) (values : List Node) → AreSlots s leaves → i < length leaves →
+    values ≡ slot_nodes s (take i leaves) → n ≡ get_or s.slots (get_or leaves i d).0 n → values ++ n ∷ [] ≡ slot_nodes s (take (i + 1) leaves)
+slots-next s leaves i d n values are lt before e =
+    ap₂ (λ (l : List Node) (m : Node). l ++ m ∷ []) before (e ∙ other-default s.slots (get_or leaves i d).0 n (record { 0 = 0 }) (slot-there s leaves i d are lt)) ∙
+    sym (ap (slot_nodes s) (take_more leaves i d lt) ∙ slots-more s (take i leaves) (get_or leaves i d))
+
+pub slots-done : (s : Seen) (leaves : List Slot) (i : ℕ) (values : List Node) → length leaves ≤ i → values ≡ slot_nodes s (take i leaves) → values ≡ slot_nodes s leaves
+slots-done s leaves i values le e = e ∙ ap (slot_nodes s) (take_all i leaves le)
+
+value-same : (ts : List Triple) (ns : List Node) (x : ℕ) (d : Node) → x < length ns → function_of ts (get_or ns x d).0 ≡ value_in ts ns x
+value-same ts [] x d lt = absurd (omega arith)
+value-same ts (n ∷ ns) zero d lt = refl
+value-same ts (n ∷ ns) (suc x) d lt = value-same ts ns x d (omega arith)
+
+pub functions-slots : (s : Seen) (leaves : List Slot) → AreSlots s leaves → functions_of s.nodes.triples (slot_nodes s leaves) ≡ slot_values s leaves
+functions-slots s [] are = refl
+functions-slots s (l ∷ leaves) are = ap₂ ◌∷◌ (value-same s.nodes.triples s.slots l.0 (record { 0 = 0 }) are.0) (functions-slots s leaves are.1)
+
+there-at : (ts : List Triple) (ns : List Node) (x : ℕ) (d : Node) → AreThere ts ns → x < length ns → IsNode ts (get_or ns x d).0
+there-at ts [] x d w lt = absurd (omega arith)
+there-at ts (n ∷ ns) zero d w lt = w.0
+there-at ts (n ∷ ns) (suc x) d w lt = there-at ts ns x d w.1 (omega arith)
+
+pub slots-nodes : (s : Seen) (leaves : List Slot) → IsStore s → AreSlots s leaves → AllNodes s.nodes.triples (slot_nodes s leaves)
+slots-nodes s [] st are = tt
+slots-nodes s (l ∷ leaves) st are = (there-at s.nodes.triples s.slots l.0 (record { 0 = 0 }) st.nodes are.0, slots-nodes s leaves st are.1)
+
+-- a slot's value depends on levels that were drawn alone
+value-below : (s : Seen) → IsStore s → (x : ℕ) → DependsOnly (λ k. k < s.drawn) (value_in s.nodes.triples s.slots x)
+unfolding view_of
+value-below s st x = weaker (IsLive (view_of s)) (λ k. k < s.drawn) (value_in s.nodes.triples s.slots x) (st.good.fit x).only (λ k w. drawn k w)
+  where
+    drawn : (k : ℕ) → IsLive (view_of s) k → k < s.drawn
+    drawn k (inl lt) = let b : s.constants ≤ s.drawn = st.constants in let a : k < s.constants = lt in omega (arith, a, b)
+    drawn k (inr w) = st.levels k w.0 w.1
+
+values-below : (s : Seen) (leaves : List Slot) → IsStore s → AllBelow s.drawn (slot_values s leaves)
+values-below s [] st = tt
+values-below s (l ∷ leaves) st = (value-below s st l.0, values-below s leaves st)
+
+pub slots-below : (s : Seen) (leaves : List Slot) → IsStore s → AreSlots s leaves → AllBelow s.drawn (functions_of s.nodes.triples (slot_nodes s leaves))
+slots-below s leaves st are = subst (λ fs. AllBelow s.drawn fs) (sym (functions-slots s leaves are)) (values-below s leaves st)
+
+-- ---- the answer
+
+values-fit : (s : Seen) (leaves : List Slot) → IsStore s → Each (IsFit (view_of s)) (slot_values s leaves)
+unfolding view_of
+values-fit s [] st = tt
+values-fit s (l ∷ leaves) st = (st.good.fit l.0, values-fit s leaves st)
+
+pub is-answer : (s : Seen) (leaves : List Slot) (first : ℕ) (gens : List Function) → IsStore s → AreSlots s leaves →
+    AreParametric s.constants first (functions_of s.nodes.triples (slot_nodes s leaves)) gens → IsAnswer s leaves first gens
+unfolding view_of
+is-answer s leaves first gens st are is p =
+    gen_same (Reaches s.constants (slot_values s leaves) p) (Allows (view_of s) (slot_values s leaves) p)
+    (reaches_allows (view_of s) st.good (slot_values s leaves) (values-fit s leaves st) p) [] (map p (numbers_from first (length gens))) (values_at gens p)
+    (subst (λ fs. Gen (Reaches s.constants fs p) [] (map p (numbers_from first (length gens))) (values_at gens p)) (functions-slots s leaves are) (is p))
+
+-- ---- the store after the call
+
+-- levels were drawn and nodes added
+module _ (s : Seen) (m : ℕ) (t : Store) (st : IsStore s) (g : Grows s.nodes t) where
+  pub store-after : IsStore (record s { drawn = s.drawn + m; nodes = t })
+  store-after = store-still (record s { drawn = s.drawn + m }) t (store-drawn s m st) g
+
+  pub argument-after : (n : ℕ) → IsArgument s n → IsArgument (record s { drawn = s.drawn + m; nodes = t }) n
+  argument-after n a = argument-still (record s { drawn = s.drawn + m }) t (store-drawn s m st) g n (argument-drawn s m n a)
+
+  pub moments-after : KeepsMoments s (record s { drawn = s.drawn + m; nodes = t })
+  moments-after = keeps s (record s { drawn = s.drawn + m; nodes = t }) (record {
+    constants = refl;
+    drawn = omega arith;
+    more = [];
+    free = sym (append-nil s.free);
+    changes = [];
+    trail = sym (append-nil s.trail);
+    number = omega arith;
+    slots = take_all (length s.slots) s.slots (omega arith);
+    nodes = g;
+  })
+
+-- a stop for nodes has its cause
+pub the-cause : (values : List Node) (s t : Store) → Grows s t → ParametricRoom values s t → Rose s.fulls t.fulls → length t.triples ≡ t.budget → ParametricCause values s t
+the-cause values s t g room rose full = record {
+  rose = rose;
+  below = λ ls d. let m = room.most ls d in let b : t.budget ≡ s.budget = g.budget in omega (arith, m, b, full);
+}
+
+-- ---- as the code has them: the store with its levels drawn, the values, and the operations that it lends
+
+module _ (s s1 : Seen) (m : ℕ) (e : s1 ≡ record s { drawn = s.drawn + m }) (leaves : List Slot) (l values : List Node) (el : l ≡ values) (ev : values ≡ slot_nodes s1 leaves)
+    (t0 : Store) (et : t0 ≡ s1.nodes) (st : IsStore s) (are : AreSlots s leaves) where
+  nodes-are : t0 ≡ s.nodes
+  nodes-are = et ∙ ap (λ (o : Seen). o.nodes) e
+
+  values-are : l ≡ slot_nodes s leaves
+  values-are = el ∙ ev ∙ ap (λ (o : Seen). slot_nodes o leaves) e
+
+  pub lent-nodes : AllNodes t0.triples l
+  lent-nodes = subst (λ (t : Store). AllNodes t.triples l) (sym nodes-are) (subst (λ (ns : List Node). AllNodes s.nodes.triples ns) (sym values-are) (slots-nodes s leaves st are))
+
+  pub lent-below : (first : ℕ) → first ≡ s.drawn → AllBelow first (functions_of t0.triples l)
+  lent-below first ef =
+      subst (λ n. AllBelow n (functions_of t0.triples l)) (sym ef)
+      (subst (λ (t : Store). AllBelow s.drawn (functions_of t.triples l)) (sym nodes-are)
+      (subst (λ (ns : List Node). AllBelow s.drawn (functions_of s.nodes.triples ns)) (sym values-are) (slots-below s leaves st are)))
+
+  module _ (t : Store) (g0 : Grows t0 t) where
+    g : Grows s.nodes t
+    g = subst (λ (o : Store). Grows o t) nodes-are g0
+
+    same-after : record s1 { nodes = t } ≡ record s { drawn = s.drawn + m; nodes = t }
+    same-after = ap (λ (o : Seen). let r : Seen = record o { nodes = t } in r) e
+
+    pub lent-store : IsStore (record s1 { nodes = t })
+    lent-store = subst IsStore (sym same-after) (store-after s m t st g)
+
+    pub lent-argument : (n : ℕ) → IsArgument s n → IsArgument (record s1 { nodes = t }) n
+    lent-argument n a = subst (λ (o : Seen). IsArgument o n) (sym same-after) (argument-after s m t st g n a)
+
+    pub lent-moments : KeepsMoments s (record s1 { nodes = t })
+    lent-moments = subst (KeepsMoments s) (sym same-after) (moments-after s m t st g)
+
+    pub lent-room : ParametricRoom l t0 t → ParametricRoom (slot_nodes s leaves) s.nodes t
+    lent-room r = subst (λ (o : Store). ParametricRoom (slot_nodes s leaves) o t) nodes-are (subst (λ (ns : List Node). ParametricRoom ns t0 t) values-are r)
+
+    pub lent-cause : ParametricRoom l t0 t → Rose t0.fulls t.fulls → length t.triples ≡ t.budget → ParametricCause (slot_nodes s leaves) s.nodes t
+    lent-cause r rose full = the-cause (slot_nodes s leaves) s.nodes t g (lent-room r) (subst (λ (o : Store). Rose o.fulls t.fulls) nodes-are rose) full
+
+    pub lent-answer : (c first : ℕ) (gens : List Function) → c ≡ s1.constants → AreParametric c first (functions_of t0.triples l) gens → IsAnswer s leaves first gens
+    lent-answer c first gens ec is = is-answer s leaves first gens st are
+        (subst (λ (n : ℕ). AreParametric n first (functions_of s.nodes.triples (slot_nodes s leaves)) gens) (ec ∙ ap (λ (o : Seen). o.constants) e)
+        (subst (λ (o : Store). AreParametric c first (functions_of o.triples (slot_nodes s leaves)) gens) nodes-are
+        (subst (λ (ns : List Node). AreParametric c first (functions_of t0.triples ns) gens) values-are is)))
+
+pub room-none : (values : List Node) (s : Store) → ParametricRoom values s s
+room-none values s = Rattle.cb_leaves.proofs.Whole.whole-room s s values 0 (omega arith) (λ ls d. omega arith)

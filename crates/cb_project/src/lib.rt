@@ -1,0 +1,107 @@
+//! The parametric form of an answer: for each leaf a function of the constants and of the parameters up to its own.
+#![tactic(auto)]
+
+ghost use Rattle.std.specs.Prelude.{◌≡◌, ◌≢◌, ℕ, ◌+◌, ◌-◌, ◌<◌, ◌≤◌, ◌^◌, length, Ok, Err, IfOk};
+ghost use Rattle.cb_dd.specs.Diagram.{IsNode};
+ghost use Rattle.cb_ops.specs.Ops.{Grows};
+ghost use Rattle.cb_elim.specs.Store.{IsArgument, IsStore};
+ghost use Rattle.cb_elim.specs.Moments.{KeepsMoments};
+ghost use Rattle.cb_parameters.specs.Stages.{AreOwn};
+ghost use Rattle.cb_leaves.specs.Leaves.{functions_of, AllNodes, ParametricCause, ParametricRoom};
+ghost use Rattle.cb_project.specs.Answer.{AreSlots, IsAnswer, slot_nodes};
+
+use cb_dd::{Node, Stop};
+use cb_elim::{Slot, Store};
+use cb_leaves::leaf_nodes;
+use sqlite_items::Items;
+use std::alloc::Global;
+
+/// The parametric form of an answer.
+#[derive(Debug, Drop)]
+pub struct Projected {
+    /// The level of the first parameter: parameter `_j`, counted from 1, has level `first + j - 1`.
+    pub first: u32,
+    /// The functions of the leaves in order, over the constants and the parameters.
+    pub nodes: Items<Node>,
+}
+
+// The nodes of the slots' values.
+fn slot_values(alloc: Global, store: &Store, leaves: &[Slot]) -> Result<Vec<Node>, Stop>
+    requires store { IsStore store.now }
+    requires slots { AreSlots store.now leaves.now }
+    ensures values { IfOk result (λ v. v.items ≡ slot_nodes store.now leaves.now) }
+    ensures memory { result ≢ Err Stop.Nodes }
+{
+    let mut values = Vec::new(alloc);
+    for leaf in leaves {
+        let Ok(_) = values.push(store.value(*leaf)) else {
+            return Err(Stop::Memory);
+        };
+    }
+    Ok(values)
+}
+
+/// The parametric form of the slots' values: node j, counted from 1, is parameter `_j` where the store's equations
+/// allow that after the leaves before it, else the other bit. It draws a level for each leaf.
+///
+/// Leaf by leaf: the solution (Boole 1854) of "the leaf is its node" is put into the leaves that follow. After a stop the
+/// levels are drawn and nodes may stay; all goes with an undo of the caller.
+pub fn general(alloc: Global, store: &mut Store, leaves: &[Slot]) -> Result<Projected, Stop>
+    requires store { IsStore store.old }
+    requires slots { AreSlots store.old leaves.now }
+    requires levels { store.old.drawn + length leaves.now < 2 ^ 32 }
+    ensures as_many { IfOk result (λ r. length r.nodes ≡ length leaves.now) }
+    ensures first { IfOk result (λ r. r.first ≡ store.old.drawn) }
+    ensures nodes { IfOk result (λ r. AllNodes store.new.nodes.triples r.nodes) }
+    ensures answer { IfOk result (λ r. IsAnswer store.old leaves.now r.first (functions_of store.new.nodes.triples r.nodes)) }
+    ensures own { IfOk result (λ r. AreOwn store.old.constants r.first 0 (functions_of store.new.nodes.triples r.nodes)) }
+    ensures same { store.new ≡ record store.old { drawn = store.old.drawn + length leaves.now; nodes = store.new.nodes } }
+    ensures grows { Grows store.old.nodes store.new.nodes }
+    ensures arguments { (n : ℕ) → IsArgument store.old n → IsArgument store.new n }
+    ensures moments { KeepsMoments store.old store.new }
+    ensures store { IsStore store.new }
+    ensures room { ParametricRoom (slot_nodes store.old leaves.now) store.old.nodes store.new.nodes }
+    ensures cause { result ≡ Err Stop.Nodes → ParametricCause (slot_nodes store.old leaves.now) store.old.nodes store.new.nodes }
+    ensures unbounded { store.old.nodes.budget ≡ 2 ^ 64 - 1 → result ≢ Err Stop.Nodes }
+{
+    let first = store.draw(leaves.len() as u32);
+    let values = slot_values(alloc, store, leaves)?;
+    let constants = store.constants();
+    let found = leaf_nodes(alloc, store.ops(), &values, constants, first);
+    let _count = store.read().count();
+    let nodes = found?;
+    Ok(Projected {
+        first,
+        nodes: Items::from_vec(nodes),
+    })
+}
+
+#[cfg(test)]
+mod tests {
+    use super::*;
+    use std::test::Fail;
+
+    // The parametric form of one variable, free or made equal to the constant.
+    fn one_leaf(alloc: Global, bound: bool) -> Result<Projected, Stop> {
+        let Ok(mut store) = Store::new(alloc, 1, 100) else {
+            return Err(Stop::Memory);
+        };
+        let slot = store.variable()?;
+        if bound {
+            let a = store.constant(0)?;
+            let x = store.value(slot);
+            let _solved = store.unify(x, a)?;
+        }
+        general(alloc, &mut store, &[slot])
+    }
+
+    #[test]
+    fn gives_a_node_for_the_leaf(rt: HostRuntime) -> Result<(), Fail> {
+        let free = one_leaf(rt.alloc(), false)?;
+        assert_eq!(rt; free.first, 2);
+        assert_eq!(rt; free.nodes.len(), 1);
+        let bound = one_leaf(rt.alloc(), true)?;
+        assert_eq!(rt; bound.nodes.len(), 1);
+        Ok(())
+    }
+}
