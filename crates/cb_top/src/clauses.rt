@@ -6,7 +6,7 @@ ghost use Rattle.cb_model.specs.Forms.{clause_form};
 ghost use Rattle.cb_model.specs.Loading.{is_fact};
 ghost use Rattle.cb_top.specs.Counts.{is_counted};
 
-use cb_circ::is_fact;
+use cb_known::is_fact;
 use cb_model::RawClause;
 
 /// Whether a clause is a fact of circuits.

@@ -212,7 +212,8 @@ fn are_accepted(alloc: Global, clauses: &[RawClause<'_>]) -> Result<(), LoadErro
     requires { AreClauses 4194304 (map clause_form clauses.now) }
     ensures { MatchResult result (λ _. IsAccepted (map clause_form clauses.now)) (Refuses (map clause_form clauses.now)) }
 {
-    load(alloc, clauses)?;
+    let program = load(alloc, clauses)?;
+    drop(program);
     Ok(())
 }
 
