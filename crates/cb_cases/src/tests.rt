@@ -112,8 +112,8 @@ fn refuses_words(rt: HostRuntime) -> Result<(), Fail> {
 fn says_what_is_not_built(rt: HostRuntime) -> Result<(), Fail> {
     for line in [
         "check F",
-        "run F 10000000 1",
-        "same F half_adder half_adder max",
+        "run G 10000000 1",
+        "same G half_adder half_adder max",
         "make 64 max",
         "verify F other max",
     ] {
@@ -134,7 +134,7 @@ fn refuses_what_is_not_read(rt: HostRuntime) -> Result<(), Fail> {
     for _ in 0..256 {
         deep.push(b'(')?;
     }
-    let cases: [(&[u8], &[u8]); 12] = [
+    let cases: [(&[u8], &[u8]); 11] = [
         (b"p(0", b"error: line 1: unfinished clause\n"),
         (b"p.\nq(0,\n1", b"error: line 2: unfinished clause\n"),
         (
@@ -147,7 +147,6 @@ fn refuses_what_is_not_read(rt: HostRuntime) -> Result<(), Fail> {
         (b"p(0).\np :- .", b"error: line 2: syntax\n"),
         (b"p(0)\n, q.", b"error: line 2: syntax\n"),
         (deep.as_slice(), b"error: line 2: nested too deep\n"),
-        (b"", b"error: not built yet\n"),
         (b"% nothing", b"error: not built yet\n"),
         (b"p(0).", b"error: not built yet\n"),
     ];
@@ -170,30 +169,85 @@ fn verifies_between_comments_and_tabs(rt: HostRuntime) -> Result<(), Fail> {
 }
 
 #[test]
-fn says_that_other_clauses_are_not_built(rt: HostRuntime) -> Result<(), Fail> {
-    let file = format!(in rt.alloc(); "{HALF_ADDER}p(0).\n")?;
-    let (status, text) = run(
-        rt.alloc(),
-        "verify F half_adder max",
-        file.as_bytes(),
-        1000,
-        0,
-    )?;
-    assert_eq!(rt; text.as_slice(), b"error: not built yet\n".as_slice());
-    assert_eq!(rt; status, 2);
+fn checks_directives_and_sorts(rt: HostRuntime) -> Result<(), Fail> {
+    let cases: [(&[u8], &[u8]); 16] = [
+        (
+            b":- sorts f(bool). :- sorts f(term).",
+            b"error: line 1: declared twice\n",
+        ),
+        (b"p(X) :- q(X).", b"error: line 1: unknown name\n"),
+        (
+            b":- delay p(nonvar). :- sorts p(bool).",
+            b"error: line 1: bad directive\n",
+        ),
+        (
+            b":- sorts p(bool). p(X) :- X = f.",
+            b"error: line 1: sort clash\n",
+        ),
+        (
+            b":- constants a. :- sorts f(term). f(a).",
+            b"error: line 1: sort clash\n",
+        ),
+        (b"p(0).\n:- delay q(any).", b"error: line 2: unknown name\n"),
+        (b"p :- q.\n:- word(a).", b"error: line 2: bad directive\n"),
+        (b"p(0).\ntrue.", b"error: line 2: declared twice\n"),
+        (b"p :- q.\np(0", b"error: line 2: unfinished clause\n"),
+        (b"p(0", b"error: line 1: unfinished clause\n"),
+        (b"p(\xC3\xA9).", b"error: byte 2: unexpected byte\n"),
+        (b"% \xC3\xA9\np(0).", b"checked: 1 clauses, 0 modules\n"),
+        (
+            b":- constants a. p(0). q(X) :- p(X).",
+            b"checked: 2 clauses, 0 modules\n",
+        ),
+        (b"", b"checked: 0 clauses, 0 modules\n"),
+        (b"p(0). spec(m).", b"checked: 2 clauses, 0 modules\n"),
+        (
+            b"p(0). spec(m, [A], [A]) :- p(0).",
+            b"error: not built yet\n",
+        ),
+    ];
+    for (file, want) in cases {
+        let (status, text) = run(rt.alloc(), "check F", file, 1000, 0)?;
+        assert_eq!(rt; text.as_slice(), want, "{}", file.len());
+        let accepted = want.starts_with(b"checked");
+        assert_eq!(rt; status, if accepted { 0 } else { 2 }, "{}", file.len());
+    }
+    Ok(())
+}
+
+#[test]
+fn verifies_beside_other_clauses(rt: HostRuntime) -> Result<(), Fail> {
+    let cases = [
+        (":- constants a.\np(a).", "verified half_adder\n", 0),
+        ("p :- q.", "error: line 3: unknown name\n", 2),
+        (":- sorts p(0).", "error: line 3: bad directive\n", 2),
+        ("spec(n, [A], [A]).", "error: not built yet\n", 2),
+    ];
+    for (more, want, wanted) in cases {
+        let file = format!(in rt.alloc(); "{HALF_ADDER}{more}")?;
+        let (status, text) = run(
+            rt.alloc(),
+            "verify F half_adder max",
+            file.as_bytes(),
+            1000,
+            0,
+        )?;
+        assert_eq!(rt; text.as_slice(), want.as_bytes(), "{more}");
+        assert_eq!(rt; status, wanted, "{more}");
+    }
     Ok(())
 }
 
 #[test]
 fn limits_the_file(rt: HostRuntime) -> Result<(), Fail> {
-    for (count, want) in [
-        (4194304, b"error: not built yet\n".as_slice()),
-        (4194305, b"error: file too long\n".as_slice()),
+    for (count, want, wanted) in [
+        (4194304, b"checked: 0 clauses, 0 modules\n".as_slice(), 0),
+        (4194305, b"error: file too long\n".as_slice(), 2),
     ] {
         let file = vec![in rt.alloc(); b' '; count]?;
-        let (status, text) = run(rt.alloc(), "verify F m max", file.as_slice(), 1000, 0)?;
+        let (status, text) = run(rt.alloc(), "check F", file.as_slice(), 1000, 0)?;
         assert_eq!(rt; text.as_slice(), want, "{count}");
-        assert_eq!(rt; status, 2, "{count}");
+        assert_eq!(rt; status, wanted, "{count}");
     }
     Ok(())
 }

@@ -1,5 +1,5 @@
 -- The steps of the reading of facts.
-use Rattle.std.proofs.Common.{◌≡◌, ℕ, suc, ◌+◌, ◌<◌, ◌≤◌, Bool, true, false, ◌&&◌, List, [], ◌∷◌, ◌++◌, map, length, take, drop, ◌-◌, get_or, Option, Some, None, bytes_eq, nat_eq, refl, sym, ◌∙◌, ap, subst, arith, add-one, drop-cons, append_assoc, length-drop}
+use Rattle.std.proofs.Common.{◌≡◌, ℕ, suc, ◌+◌, ◌<◌, ◌≤◌, Bool, true, false, List, [], ◌∷◌, ◌++◌, map, length, take, drop, ◌-◌, get_or, Option, Some, None, nat_eq, refl, sym, ◌∙◌, ap, subst, arith, add-one, drop-cons, append_assoc, length-drop}
 use Rattle.std.specs.Bool.{if◌then◌else◌}
 use Rattle.std.proofs.Math.Seq.{take-length}
 use Rattle.std.proofs.lemmas.List.{map-append, append-nil, drop_all}
@@ -7,11 +7,9 @@ use Rattle.cb_model.specs.declared.RawTerm.{RawTerm}
 use Rattle.cb_model.specs.declared.RawClause.{RawClause}
 use Rattle.cb_model.specs.declared.RawClause.TheVariants as raw_clause
 use Rattle.cb_model.specs.declared.RawGoal.{RawGoal}
-use Rattle.cb_model.specs.Text.{Text}
-use Rattle.cb_model.specs.Grammar.{Form, Name, Closed, FormClause}
+use Rattle.cb_model.specs.Grammar.{Form, Closed, FormClause}
 use Rattle.cb_model.specs.Forms.{form_of, forms_of, clause_form}
-use Rattle.cb_model.specs.Directives.{count_of}
-use Rattle.cb_model.specs.Loading.{sign_is, is_fact}
+use Rattle.cb_model.specs.Loading.{is_fact}
 use Rattle.cb_circ.specs.FirstForm.{facts_of}
 use Rattle.cb_circ.specs.Reader.{one_in, two_in, three_in, four_in, before, all_in, elements_in, list_in, bare_head}
 
@@ -110,15 +108,7 @@ list_items read f [] e h = absurd (cc)
 list_items read (Closed fs) (t ∷ ts) e h = let k : fs ≡ forms_of (map form_of (t ∷ ts)) = cc in ap (λ z. list_in read (Closed z)) k
 list_items read _ (t ∷ ts) e h = absurd (cc)
 
--- ---- names and facts
-
-count_forms : (ts : List RawTerm) → count_of (forms_of (map form_of ts)) ≡ length ts
-count_forms [] = refl
-count_forms (t ∷ ts) = ap suc (count_forms ts)
-
-pub named_so : (name found : Text) (count : ℕ) (ts : List RawTerm) (f : Form) → f ≡ Name found (forms_of (map form_of ts)) → true ≡ bytes_eq name found →
-    nat_eq count (length ts) ≡ sign_is (name, count) f
-named_so name found count ts f e h = sym (ap (sign_is (name, count)) e ∙ (λ j. sym h j && nat_eq count (count_forms ts j)))
+-- ---- facts
 
 pub bodied_not : (c : RawClause) (n : ℕ) (head : RawTerm) (b : Bool) (gs : List RawGoal) → c ≡ raw_clause.Rule n head b gs → (gs ≡ [] → ⊥) → None ≡ bare_head (clause_form c)
 bodied_not c n head b [] e h = absurd (h refl)

@@ -2,7 +2,6 @@
 ghost use Rattle.std.specs.Prelude.{◌≡◌, [], ◌∷◌, Some, None, map, MatchOption, MatchResult};
 ghost use Rattle.std.specs.Option.{option_map};
 ghost use Rattle.cb_model.specs.Forms.{form_of, clause_form};
-ghost use Rattle.cb_model.specs.Loading.{is_fact, sign_is};
 ghost use Rattle.cb_circ.specs.FirstForm.{facts_of};
 ghost use Rattle.cb_circ.specs.Stops.{Refuses};
 ghost use Rattle.cb_circ.specs.Facts.{module_of, spec_of};
@@ -12,7 +11,8 @@ use crate::items::{Pair, PairGate};
 use crate::lists::list;
 use crate::stop::Stop;
 use crate::terms::{arguments, four, three};
-use cb_directives::{atom, named};
+use cb_directives::atom;
+use cb_known::is_fact;
 use cb_model::{RawClause, RawTerm};
 use sqlite_items::Items;
 use std::alloc::Global;
@@ -32,26 +32,6 @@ pub(crate) struct SpecFact<'s> {
     pub name: &'s [u8],
     pub ports: Items<&'s [u8]>,
     pub pairs: Items<Pair<'s>>,
-}
-
-/// Whether a term has a name with so many arguments.
-fn is_named(term: &RawTerm<'_>, name: &[u8], count: usize) -> bool
-    ensures { result ≡ sign_is (name.now, count) (form_of term.now) }
-{
-    match named(term) {
-        Some((found, args)) => name == found && count == args.len(),
-        None => false,
-    }
-}
-
-/// Whether a clause is a fact of circuits: a rule with the head `module/4` or `spec/3`, with or without a body.
-pub fn is_fact(clause: &RawClause<'_>) -> bool
-    ensures { result ≡ is_fact (clause_form clause.now) }
-{
-    match clause {
-        RawClause::Directive { .. } => false,
-        RawClause::Rule { head, .. } => is_named(head, b"module", 4) || is_named(head, b"spec", 3),
-    }
 }
 
 /// The first fact among clauses, and the clauses behind it.

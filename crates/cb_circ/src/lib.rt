@@ -10,7 +10,6 @@ mod numbering;
 mod stop;
 mod terms;
 
-pub use facts::is_fact;
 pub use first::{First, first_form};
 
 #[cfg(test)]

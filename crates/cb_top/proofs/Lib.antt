@@ -1,5 +1,5 @@
 pub mod Numbers
 pub mod Inputs
-pub mod Clauses
+pub mod Counts
 pub mod Outputs
 pub mod Deciding

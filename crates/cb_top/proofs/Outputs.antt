@@ -15,15 +15,17 @@ use Rattle.cb_model.specs.Commands.{Command, Check, Run, Verify, Same, Make, Nod
 use Rattle.cb_model.specs.Refusals.{Refused, Refuses, refusal_line, usage, unbuilt, file_too_long}
 use Rattle.cb_model.specs.Verdicts.{Compared, agrees, differs, stopped}
 use Rattle.cb_model.specs.Outside.{Rose, bytes_named}
-use Rattle.cb_top.specs.Built.{FileRefused, long, unread, ClausesSay, others, not_first, compared, VerifySays, refused, read, CommandSays, Output, nothing_yet, begins, bytes_or, file_bytes, flat_room}
+use Rattle.cb_top.specs.Built.{FileRefused, long, unread, unsorted, ClausesRefused, directive, rule, CheckSays, with_facts, checked, VerifySays, not_first, compared, Task, Checking, Comparing, TaskSays, FileSays, refused, accepted, CommandSays, Output, nothing_yet, begins, bytes_or, file_bytes, flat_room}
 use Rattle.cb_circ.specs.FirstForm.{pair_exprs}
 use Rattle.cb_model.specs.Tokens.{Byte, Number, Quote}
 use Rattle.cb_model.specs.Grammar.{FormClause, Reading, Whole, Lexed, Syntax, Unfinished, Deep}
-use Rattle.cb_model.specs.Output.{BelowNodes, reading_refused}
+use Rattle.cb_model.specs.Output.{BelowNodes, reading_refused, sort_refused}
 use Rattle.cb_model.specs.Top.{HasUsage, NamesNumber}
 use Rattle.cb_top.specs.Top.{Appends, Prints}
 use Rattle.cb_top.specs.declared.lines.TheConstants.{USAGE, FILE_TOO_LONG}
-use Rattle.cb_top.specs.Answers.{VerifyAnswers, Answers, BreaksOff, Finishes, whole, broken}
+use Rattle.cb_model.specs.Directives as dir
+use Rattle.cb_model.specs.Directives.{Refusal, BadDirective, SortClash, Unknown}
+use Rattle.cb_top.specs.Answers.{FileAnswers, Answers, BreaksOff, Finishes, whole, broken}
 
 -- ---- the outcomes of outputs
 
@@ -52,19 +54,21 @@ refuses-other r lines o d h = (λ p. d (let e : outcome.Refused r.number ≡ out
 some-none : {A : Type 0} (x : A) → Some x ≡ None → ⊥
 some-none x e = true≢false (ap is_some e)
 
--- the facts of an outcome of `verify`
-pub record VerifyEnds (nodes : Nodes) (o : Outcome) : Type 0 where
+-- the budget of nodes that a task has is a number
+abbrev TaskNumber : Task → Type 0
+TaskNumber Checking = ⊥
+TaskNumber (Comparing name nodes) = IsNumber nodes
+
+-- the facts of an outcome of a task
+record TaskEnds (task : Task) (o : Outcome) : Type 0 where
   pub ends : Ends o
   pub other : NotUsage o
-  pub stops : o ≡ outcome.Stopped → IsNumber nodes
+  pub stops : o ≡ outcome.Stopped → TaskNumber task
 
-refused-ends : (nodes : Nodes) (r : Refused) (lines : List Text) (o : Outcome) → (r.number ≡ 19 → ⊥) → Refuses r lines o → VerifyEnds nodes o
-refused-ends nodes r lines o d h =
+refused-ends : (task : Task) (r : Refused) (lines : List Text) (o : Outcome) → (r.number ≡ 19 → ⊥) → Refuses r lines o → TaskEnds task o
+refused-ends task r lines o d h =
     let q = refuses-other r lines o d h in
     record { ends = refuses-ends r lines o h; other = q.0; stops = λ p. absurd (q.1 p) }
-
-unbuilt-ends : (nodes : Nodes) (lines : List Text) (o : Outcome) → Refuses unbuilt lines o → VerifyEnds nodes o
-unbuilt-ends nodes lines o h = refused-ends nodes unbuilt lines o (λ (p : 99 ≡ 19). omega arith) h
 
 -- the number of a refusal of a reading
 other_number : (r q : Refused) → Some q ≡ Some r → (q.number ≡ 19 → ⊥) → r.number ≡ 19 → ⊥
@@ -83,23 +87,45 @@ reading-number (Syntax n) r e = other_number r _ e (λ (p : 4 ≡ 19). omega ari
 reading-number (Unfinished n) r e = other_number r _ e (λ (p : 5 ≡ 19). omega arith)
 reading-number (Deep n) r e = other_number r _ e (λ (p : 6 ≡ 19). omega arith)
 
+sort-number : (e : Refusal × ℕ) → (sort_refused e).number ≡ 19 → ⊥
+sort-number (BadDirective, n) = λ (p : 7 ≡ 19). omega arith
+sort-number (SortClash, n) = λ (p : 8 ≡ 19). omega arith
+sort-number (Unknown, n) = λ (p : 9 ≡ 19). omega arith
+sort-number (dir.Twice, n) = λ (p : 10 ≡ 19). omega arith
+
+clauses-number : (cs : List FormClause) (r : Refused) → ClausesRefused cs r → r.number ≡ 19 → ⊥
+clauses-number cs r (directive e h) = sort-number e
+clauses-number cs r (rule d e h k) = sort-number e
+
 file-number : (file : Text) (r : Refused) → FileRefused file r → r.number ≡ 19 → ⊥
 file-number file r (long h) = λ (p : 20 ≡ 19). omega arith
 file-number file r (unread x s h e) = reading-number x r e
+file-number file r (unsorted cs i h) = clauses-number cs r h
 
 below-number : (nodes : Nodes) (n : ℕ) → BelowNodes nodes n → IsNumber nodes
 below-number Max n h = h
 below-number (Only k) n h = tt
 
-clauses-ends : (cs : List FormClause) (name : Text) (nodes : Nodes) (lines : List Text) (o : Outcome) → ClausesSay cs name nodes lines o → VerifyEnds nodes o
-clauses-ends cs name nodes lines o (others a h) = unbuilt-ends nodes lines o h
-clauses-ends cs name nodes lines o (not_first n h) = unbuilt-ends nodes lines o h
-clauses-ends cs name nodes lines o (compared m s a f h) =
+verify-ends : (cs : List FormClause) (name : Text) (nodes : Nodes) (lines : List Text) (o : Outcome) → VerifySays cs name nodes lines o → TaskEnds (Comparing name nodes) o
+verify-ends cs name nodes lines o (not_first n h) = refused-ends (Comparing name nodes) unbuilt lines o (λ (p : 99 ≡ 19). omega arith) h
+verify-ends cs name nodes lines o (compared m s f h) =
     let q = compared-ends _ _ _ _ _ _ lines o h in record { ends = q.0; other = q.1; stops = λ p. below-number nodes (flat_room m (pair_exprs s)) (q.2 p) }
 
-verify-ends : (file name : Text) (nodes : Nodes) (lines : List Text) (o : Outcome) → VerifySays file name nodes lines o → VerifyEnds nodes o
-verify-ends file name nodes lines o (refused r t h) = refused-ends nodes r lines o (file-number file r t) h
-verify-ends file name nodes lines o (read cs i h) = clauses-ends cs name nodes lines o h
+check-ends : (file : Text) (cs : List FormClause) (lines : List Text) (o : Outcome) → CheckSays file cs lines o → TaskEnds Checking o
+check-ends file cs lines o (with_facts a h) = refused-ends Checking unbuilt lines o (λ (p : 99 ≡ 19). omega arith) h
+check-ends file cs lines o (checked l a b i t e) = record {
+  ends = subst Ends (sym e) tt;
+  other = λ p. let q : outcome.Done ≡ outcome.Refused 19 = sym e ∙ p in absurd (cc);
+  stops = λ p. let q : outcome.Done ≡ outcome.Stopped = sym e ∙ p in absurd (cc);
+}
+
+task-ends : (task : Task) (file : Text) (cs : List FormClause) (lines : List Text) (o : Outcome) → TaskSays task file cs lines o → TaskEnds task o
+task-ends Checking file cs lines o h = check-ends file cs lines o h
+task-ends (Comparing name nodes) file cs lines o h = verify-ends cs name nodes lines o h
+
+file-ends : (task : Task) (file : Text) (lines : List Text) (o : Outcome) → FileSays task file lines o → TaskEnds task o
+file-ends task file lines o (refused r t h) = refused-ends task r lines o (file-number file r t) h
+file-ends task file lines o (accepted cs d i a h) = task-ends task file cs lines o h
 
 -- what an output says of its outcome
 pub record HasOutcome (c : Option Command) (o : Outcome) : Type 0 where
@@ -116,9 +142,11 @@ unbuilt-outcome c lines o h =
 says-outcome : (c : Option Command) (file : Text) (lines : List Text) (o : Outcome) → CommandSays c file lines o → HasOutcome c o
 says-outcome None file lines o h = record { ends = refuses-ends usage lines o h; refuses = λ p. h.1; only = λ p. refl; stops = λ p. let e : outcome.Refused 19 ≡ outcome.Stopped = sym h.1 ∙ p in cc }
 says-outcome (Some (Verify f name nodes)) file lines o h =
-    let q = verify-ends file name nodes lines o h in
+    let q = file-ends (Comparing name nodes) file lines o h in
     record { ends = q.ends; refuses = λ p. absurd (some-none (Verify f name nodes) p); only = λ p. absurd (q.other p); stops = q.stops }
-says-outcome (Some (Check f)) file lines o h = unbuilt-outcome (Check f) lines o h
+says-outcome (Some (Check f)) file lines o h =
+    let q = file-ends Checking file lines o h in
+    record { ends = q.ends; refuses = λ p. absurd (some-none (Check f) p); only = λ p. absurd (q.other p); stops = q.stops }
 says-outcome (Some (Run f r n)) file lines o h = unbuilt-outcome (Run f r n) lines o h
 says-outcome (Some (Same f a b n)) file lines o h = unbuilt-outcome (Same f a b n) lines o h
 says-outcome (Some (Make b n)) file lines o h = unbuilt-outcome (Make b n) lines o h
@@ -150,28 +178,36 @@ unbuilt-answers files words c text o e says t = record {
 }
 
 pub verify-answers : (files : Option (List (Text × Text))) (words : List Text) (file name : Text) (nodes : Nodes) (text : Text) (o : Outcome) → Some (Verify file name nodes) ≡ command_of words →
-    VerifyAnswers files file name nodes text o → Answers files words text o
+    FileAnswers files (Comparing name nodes) file text o → Answers files words text o
 verify-answers files words file name nodes text o e h = record {
   file = h.bytes;
   file_told = λ list p. h.bytes_told list p ∙ ap (λ c. bytes_or list (file_name c)) e;
   output = record { lines = h.decides.lines; says = subst (λ k. CommandSays k h.bytes h.decides.lines o) e h.decides.says; is = h.decides.is };
 }
 
-long-answers : (files : Option (List (Text × Text))) (file name bytes : Text) (nodes : Nodes) (text : Text) (o : Outcome) → ((list : List (Text × Text)) → files ≡ Some list → bytes ≡ bytes_named list file) →
-    4194304 < length bytes → text ≡ FILE_TOO_LONG.now → o ≡ outcome.Refused 20 → VerifyAnswers files file name nodes text o
-long-answers files file name bytes nodes text o told h t e = record {
+pub check-answers : (files : Option (List (Text × Text))) (words : List Text) (file : Text) (text : Text) (o : Outcome) → Some (Check file) ≡ command_of words →
+    FileAnswers files Checking file text o → Answers files words text o
+check-answers files words file text o e h = record {
+  file = h.bytes;
+  file_told = λ list p. h.bytes_told list p ∙ ap (λ c. bytes_or list (file_name c)) e;
+  output = record { lines = h.decides.lines; says = subst (λ k. CommandSays k h.bytes h.decides.lines o) e h.decides.says; is = h.decides.is };
+}
+
+long-answers : (files : Option (List (Text × Text))) (task : Task) (file bytes : Text) (text : Text) (o : Outcome) → ((list : List (Text × Text)) → files ≡ Some list → bytes ≡ bytes_named list file) →
+    4194304 < length bytes → text ≡ FILE_TOO_LONG.now → o ≡ outcome.Refused 20 → FileAnswers files task file text o
+long-answers files task file bytes text o told h t e = record {
   bytes = bytes;
   bytes_told = told;
   decides = record { lines = refusal_line file_too_long ∷ []; says = refused file_too_long (long h) (refl, e); is = t };
 }
 
 -- a file that was longer than its limit
-pub load-long : (files : Option (List (Text × Text))) (file name into : Text) (nodes : Nodes) (text : Text) (o : Outcome) → IfTold files (λ fs. Loads (bytes_named fs file) 4194304 load.Long into) →
-    HasLength 4194304 load.Long into → text ≡ FILE_TOO_LONG.now → o ≡ outcome.Refused 20 → VerifyAnswers files file name nodes text o
-load-long None file name into nodes text o h l t e =
-    long-answers None file name into nodes text o (λ list p. absurd (some-none list (sym p))) (omega arith) t e
-load-long (Some fs) file name into nodes text o h l t e =
-    long-answers (Some fs) file name (bytes_named fs file) nodes text o (λ list p. ap (λ x. bytes_named x file) (same_Some fs list p)) h.0 t e
+pub load-long : (files : Option (List (Text × Text))) (task : Task) (file into : Text) (text : Text) (o : Outcome) → IfTold files (λ fs. Loads (bytes_named fs file) 4194304 load.Long into) →
+    HasLength 4194304 load.Long into → text ≡ FILE_TOO_LONG.now → o ≡ outcome.Refused 20 → FileAnswers files task file text o
+load-long None task file into text o h l t e =
+    long-answers None task file into text o (λ list p. absurd (some-none list (sym p))) (omega arith) t e
+load-long (Some fs) task file into text o h l t e =
+    long-answers (Some fs) task file (bytes_named fs file) text o (λ list p. ap (λ x. bytes_named x file) (same_Some fs list p)) h.0 t e
 
 -- an answer where there is one
 pub if-ok : {A B : Type 0} {P Q : A → Type 0} (r : Result A B) → ((a : A) → P a → Q a) → IfOk r P → IfOk r Q

@@ -1,5 +1,6 @@
 -- What is decided before a byte is written, and how it is written.
-use Rattle.std.specs.Prelude.{◌≡◌, ◌⊎◌, ℕ, ◌-◌, ◌≤◌, List, [], ◌∷◌, ◌++◌, codes, length, take, Option, Some}
+use Rattle.std.specs.Prelude.{◌≡◌, ◌⊎◌, ℕ, ◌-◌, ◌≤◌, List, [], ◌∷◌, ◌++◌, codes, length, take, true, false, Option, Some, None}
+use Rattle.std.specs.List.{list_any}
 use Rattle.cb_model.specs.declared.Outcome.{Outcome}
 use Rattle.cb_model.specs.declared.Outcome.TheVariants as outcome
 use Rattle.cb_model.specs.declared.Side.TheVariants as side
@@ -8,9 +9,17 @@ use Rattle.cb_model.specs.Verdicts.{differs_text}
 use Rattle.cb_verify.specs.declared.Verdict.{Verdict}
 use Rattle.cb_verify.specs.declared.Verdict.TheVariants as verdict
 use Rattle.cb_model.specs.Grammar.{FormClause}
+use Rattle.cb_model.specs.Directives.{Declared}
+use Rattle.cb_model.specs.Loading.{is_fact}
+use Rattle.cb_model.specs.Facts.{no_circuits}
+use Rattle.cb_model.specs.Refusals.{Refused, refusal_line, unbuilt}
+use Rattle.cb_model.specs.Output.{Loaded, checked_text}
 use Rattle.cb_model.specs.Commands.{Nodes}
 use Rattle.cb_model.specs.Outside.{Rose, Wrote, bytes_named}
-use Rattle.cb_top.specs.Built.{ClausesSay, VerifySays, Output, file_bytes}
+use Rattle.cb_top.specs.Built.{AreAccepted, ClausesRefused, VerifySays, Task, Checking, Comparing, FileSays, Output, file_bytes}
+use Rattle.cb_top.specs.Words.{nodes_view}
+use Rattle.cb_top.specs.declared.Task as lent
+use Rattle.cb_top.specs.declared.Task.TheVariants as task
 use Rattle.cb_top.specs.declared.Line.{Line}
 use Rattle.cb_top.specs.declared.Line.TheVariants.{Fixed, Made}
 
@@ -19,23 +28,62 @@ abbrev pub line_bytes : Line → Text
 line_bytes (Fixed x) = x.now
 line_bytes (Made v) = v.items
 
--- the text and the outcome of `verify` over these bytes
-pub record Decides (file name : Text) (nodes : Nodes) (text : Text) (result : Outcome) : Type 0 where
+-- what is asked, without the place of its name in memory
+abbrev pub task_view : lent.Task → Task
+task_view task.Check = Checking
+task_view (task.Verify name nodes) = Comparing name.now (nodes_view nodes)
+
+-- the text and the outcome of a task over these bytes
+pub record Decides (task : Task) (file : Text) (text : Text) (result : Outcome) : Type 0 where
   pub lines : List Text
-  pub says : VerifySays file name nodes lines result
+  pub says : FileSays task file lines result
   pub is : text ≡ lines_text lines
 
--- the same over the file's clauses
-pub record ClausesDecide (cs : List FormClause) (name : Text) (nodes : Nodes) (text : Text) (result : Outcome) : Type 0 where
+-- a refusal is the text
+pub record IsRefusal (r : Refused) (text : Text) (result : Outcome) : Type 0 where
+  pub line : text ≡ lines_text (refusal_line r ∷ [])
+  pub outcome : result ≡ outcome.Refused r.number
+
+-- the same, where there is one
+abbrev pub IsSomeRefusal : Option Refused → Text → Outcome → Type 0
+IsSomeRefusal None text result = ⊥
+IsSomeRefusal (Some r) text result = IsRefusal r text result
+
+-- the file of these clauses, which has no circuits
+abbrev pub without_circuits : List FormClause → Declared → Loaded
+without_circuits cs d = record { clauses = cs; declared = d; circuits = no_circuits }
+
+-- no directive and no rule of the clauses is refused
+pub record IsAccepted (cs : List FormClause) : Type 0 where
+  pub declared : Declared
+  pub are : AreAccepted cs declared
+
+-- what `check` decides of the clauses of an accepted file
+pub data Checks (cs : List FormClause) (text : Text) (result : Outcome) : Type 0 where
+  with_facts : list_any is_fact cs ≡ true → IsRefusal unbuilt text result → Checks cs text result
+  checked : list_any is_fact cs ≡ false → ((d : Declared) → text ≡ lines_text (checked_text (without_circuits cs d) ∷ [])) → result ≡ outcome.Done → Checks cs text result
+
+-- what `verify` decides of them
+pub record Compares (cs : List FormClause) (name : Text) (nodes : Nodes) (text : Text) (result : Outcome) : Type 0 where
   pub lines : List Text
-  pub says : ClausesSay cs name nodes lines result
+  pub says : VerifySays cs name nodes lines result
   pub is : text ≡ lines_text lines
+
+-- what a task decides of them
+abbrev pub TaskDecides : Task → List FormClause → Text → Outcome → Type 0
+TaskDecides Checking cs text result = Checks cs text result
+TaskDecides (Comparing name nodes) cs text result = Compares cs name nodes text result
+
+-- the same of all clauses
+pub data ClausesDecide (task : Task) (cs : List FormClause) (text : Text) (result : Outcome) : Type 0 where
+  refused : (r : Refused) → ClausesRefused cs r → IsRefusal r text result → ClausesDecide task cs text result
+  accepted : (d : Declared) → AreAccepted cs d → TaskDecides task cs text result → ClausesDecide task cs text result
 
 -- the same over the bytes that were loaded, which are those that are told of the file
-pub record VerifyAnswers (files : Option (List (Text × Text))) (file name : Text) (nodes : Nodes) (text : Text) (result : Outcome) : Type 0 where
+pub record FileAnswers (files : Option (List (Text × Text))) (task : Task) (file : Text) (text : Text) (result : Outcome) : Type 0 where
   pub bytes : Text
   pub bytes_told : (list : List (Text × Text)) → files ≡ Some list → bytes ≡ bytes_named list file
-  pub decides : Decides bytes name nodes text result
+  pub decides : Decides task bytes text result
 
 -- the text and the outcome for the words
 pub record Answers (files : Option (List (Text × Text))) (words : List Text) (text : Text) (result : Outcome) : Type 0 where

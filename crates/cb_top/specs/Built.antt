@@ -1,18 +1,21 @@
--- What is built so far of what the program prints: `verify` on files whose clauses are facts in the first form.
-use Rattle.std.specs.Prelude.{◌≡◌, ℕ, ◌+◌, ◌<◌, ◌≤◌, true, false, List, [], map, sum, length, Option, Some, None, codes}
-use Rattle.std.specs.List.{list_all}
+-- What is built so far of what the program prints: `check` on files without facts of circuits, and `verify` on files
+-- whose facts are in the first form.
+use Rattle.std.specs.Prelude.{◌≡◌, ℕ, ◌+◌, ◌<◌, ◌≤◌, true, false, List, [], ◌∷◌, map, sum, length, Option, Some, None, codes}
+use Rattle.std.specs.List.{list_any}
 use Rattle.cb_model.specs.declared.Outcome.{Outcome}
+use Rattle.cb_model.specs.declared.Outcome.TheVariants as result
 use Rattle.cb_model.specs.Text.{Text, name_text, lines_text, IsPrefix}
 use Rattle.cb_model.specs.Circuits.{Module, flat, circuit_of, BySpec}
 use Rattle.cb_model.specs.Grammar.{FormClause, Reading, Whole, IsReading, ReadsClause}
-use Rattle.cb_model.specs.Loading.{is_fact}
+use Rattle.cb_model.specs.Directives.{Declared, Refusal, directives, heads}
+use Rattle.cb_model.specs.Loading.{is_fact, module_names, RulesRefusal}
 use Rattle.cb_circ.specs.FirstForm.{PairSpec, FirstForm, facts_of, pair_exprs}
 use Rattle.cb_model.specs.Commands.{Command, Check, Run, Verify, Same, Make, Nodes, command_of, file_name}
 use Rattle.cb_model.specs.Refusals.{Refused, Refuses, usage, file_too_long, unbuilt}
 use Rattle.cb_model.specs.Verdicts.{Compared}
 use Rattle.cb_model.specs.declared.Expr.{Expr}
 use Rattle.cb_model.specs.Room.{room_v, circuit_pins, instance_pins, expr_size}
-use Rattle.cb_model.specs.Output.{BelowNodes, reading_refused}
+use Rattle.cb_model.specs.Output.{BelowNodes, reading_refused, sort_refused, Loaded, IsLoaded, checked_text}
 use Rattle.cb_model.specs.Outside.{bytes_named}
 
 -- the nodes with which the comparison of a flat module with expressions is always decided
@@ -21,34 +24,64 @@ flat_room m es =
     let c = circuit_of (flat [] m) in
     room_v (circuit_pins c + instance_pins m) (sum (map expr_size es)) (length c.outputs) c.inputs
 
--- the first refusal of a file: its length, its tokens, its grammar
-pub data FileRefused (file : Text) : Refused → Type 0 where
-  long : 4194304 < length file → FileRefused file file_too_long
-  unread : {r : Refused} (x : Reading FormClause) → length file ≤ 4194304 → IsReading ReadsClause file x → reading_refused x ≡ Some r → FileRefused file r
+-- ---- the file
+
+-- what the directives of clauses declare, and that no directive and no rule is refused
+pub record AreAccepted (cs : List FormClause) (d : Declared) : Type 0 where
+  pub declares : directives cs ≡ record { refusal = None; declared = d }
+  pub rules : RulesRefusal d (heads cs) (module_names cs) cs None
+
+-- the first refusal of clauses: a directive, or else a rule
+pub data ClausesRefused (cs : List FormClause) : Refused → Type 0 where
+  directive : (e : Refusal × ℕ) → (directives cs).refusal ≡ Some e → ClausesRefused cs (sort_refused e)
+  rule : (d : Declared) (e : Refusal × ℕ) → directives cs ≡ record { refusal = None; declared = d } →
+      RulesRefusal d (heads cs) (module_names cs) cs (Some e) → ClausesRefused cs (sort_refused e)
 
 -- the file has these clauses
 pub record IsRead (file : Text) (cs : List FormClause) : Type 0 where
   pub short : length file ≤ 4194304
   pub reading : IsReading ReadsClause file (Whole cs)
 
--- the lines and the outcome of `verify` over the clauses of its file; it may stop for nodes where their number is below
--- the bound
-pub data ClausesSay (cs : List FormClause) (name : Text) (nodes : Nodes) (lines : List Text) (outcome : Outcome) : Type 0 where
-  others : list_all is_fact cs ≡ false → Refuses unbuilt lines outcome → ClausesSay cs name nodes lines outcome
-  not_first : ((m : Module) (s : PairSpec) → FirstForm (facts_of cs) name m s → ⊥) → Refuses unbuilt lines outcome → ClausesSay cs name nodes lines outcome
-  compared : (m : Module) (s : PairSpec) → list_all is_fact cs ≡ true → FirstForm (facts_of cs) name m s →
-      Compared (name_text name) (codes "verified ") m.inputs (circuit_of (flat [] m)) (BySpec (pair_exprs s)) (BelowNodes nodes (flat_room m (pair_exprs s))) lines outcome → ClausesSay cs name nodes lines outcome
+-- the first refusal of a file: its length, its tokens, its grammar, its directives, its rules
+pub data FileRefused (file : Text) : Refused → Type 0 where
+  long : 4194304 < length file → FileRefused file file_too_long
+  unread : {r : Refused} (x : Reading FormClause) → length file ≤ 4194304 → IsReading ReadsClause file x → reading_refused x ≡ Some r → FileRefused file r
+  unsorted : {r : Refused} (cs : List FormClause) → IsRead file cs → ClausesRefused cs r → FileRefused file r
 
--- the same over the bytes of its file
-pub data VerifySays (file name : Text) (nodes : Nodes) (lines : List Text) (outcome : Outcome) : Type 0 where
-  refused : (r : Refused) → FileRefused file r → Refuses r lines outcome → VerifySays file name nodes lines outcome
-  read : (cs : List FormClause) → IsRead file cs → ClausesSay cs name nodes lines outcome → VerifySays file name nodes lines outcome
+-- ---- the commands
+
+-- the lines and the outcome of `check` over an accepted file: of one without facts it says what it says in the end
+pub data CheckSays (file : Text) (cs : List FormClause) (lines : List Text) (outcome : Outcome) : Type 0 where
+  with_facts : list_any is_fact cs ≡ true → Refuses unbuilt lines outcome → CheckSays file cs lines outcome
+  checked : (l : Loaded) → list_any is_fact cs ≡ false → l.clauses ≡ cs → IsLoaded file l → lines ≡ checked_text l ∷ [] → outcome ≡ result.Done → CheckSays file cs lines outcome
+
+-- the lines and the outcome of `verify` over the clauses of an accepted file; it may stop for nodes where their number
+-- is below the bound
+pub data VerifySays (cs : List FormClause) (name : Text) (nodes : Nodes) (lines : List Text) (outcome : Outcome) : Type 0 where
+  not_first : ((m : Module) (s : PairSpec) → FirstForm (facts_of cs) name m s → ⊥) → Refuses unbuilt lines outcome → VerifySays cs name nodes lines outcome
+  compared : (m : Module) (s : PairSpec) → FirstForm (facts_of cs) name m s →
+      Compared (name_text name) (codes "verified ") m.inputs (circuit_of (flat [] m)) (BySpec (pair_exprs s)) (BelowNodes nodes (flat_room m (pair_exprs s))) lines outcome → VerifySays cs name nodes lines outcome
+
+-- what is asked of a file
+pub data Task : Type 0 where
+  Checking : Task
+  Comparing : (name : Text) (nodes : Nodes) → Task
+
+-- the lines and the outcome of a task over an accepted file
+abbrev pub TaskSays : Task → Text → List FormClause → List Text → Outcome → Type 0
+TaskSays Checking file cs lines outcome = CheckSays file cs lines outcome
+TaskSays (Comparing name nodes) file cs lines outcome = VerifySays cs name nodes lines outcome
+
+-- the same over any file
+pub data FileSays (task : Task) (file : Text) (lines : List Text) (outcome : Outcome) : Type 0 where
+  refused : (r : Refused) → FileRefused file r → Refuses r lines outcome → FileSays task file lines outcome
+  accepted : (cs : List FormClause) (d : Declared) → IsRead file cs → AreAccepted cs d → TaskSays task file cs lines outcome → FileSays task file lines outcome
 
 -- what a command says over the bytes of its file
 abbrev pub CommandSays : Option Command → Text → List Text → Outcome → Type 0
 CommandSays None file lines outcome = Refuses usage lines outcome
-CommandSays (Some (Verify f name nodes)) file lines outcome = VerifySays file name nodes lines outcome
-CommandSays (Some (Check f)) file lines outcome = Refuses unbuilt lines outcome
+CommandSays (Some (Check f)) file lines outcome = FileSays Checking file lines outcome
+CommandSays (Some (Verify f name nodes)) file lines outcome = FileSays (Comparing name nodes) file lines outcome
 CommandSays (Some (Run f r n)) file lines outcome = Refuses unbuilt lines outcome
 CommandSays (Some (Same f a b n)) file lines outcome = Refuses unbuilt lines outcome
 CommandSays (Some (Make b n)) file lines outcome = Refuses unbuilt lines outcome

@@ -2,7 +2,11 @@
 use Rattle.std.specs.Prelude.{Option, Some, None, codes}
 use Rattle.cb_model.specs.Text.{Text}
 use Rattle.cb_model.specs.Refusals.{Refused, refused, at_byte, at_line}
-use Rattle.cb_model.specs.Output.{fault_refused}
+use Rattle.cb_model.specs.Output.{fault_refused, sort_refused}
+use Rattle.cb_model.specs.Directives as dir
+use Rattle.cb_model.specs.Directives.{BadDirective, SortClash, Unknown}
+use Rattle.cb_directives.specs.declared.fault.LoadError.{LoadError}
+use Rattle.cb_directives.specs.declared.fault.LoadError.TheVariants as load
 use Rattle.cb_lex.specs.Faults.{fault_of}
 use Rattle.cb_syntax.specs.declared.texts.ReadError.{ReadError}
 use Rattle.cb_syntax.specs.declared.texts.ReadError.TheVariants as read
@@ -26,3 +30,11 @@ read_refused (read.Syntax n) = Some (refused 4 (at_line n) (codes "syntax"))
 read_refused (read.Unfinished n) = Some (refused 5 (at_line n) (codes "unfinished clause"))
 read_refused (read.Deep n) = Some (refused 6 (at_line n) (codes "nested too deep"))
 read_refused read.Memory = None
+
+-- the refusal of clauses that are not accepted; want of memory is none
+abbrev pub load_refused : LoadError → Option Refused
+load_refused (load.Directive n) = Some (sort_refused (BadDirective, n))
+load_refused (load.SortClash n) = Some (sort_refused (SortClash, n))
+load_refused (load.Unknown n) = Some (sort_refused (Unknown, n))
+load_refused (load.Twice n) = Some (sort_refused (dir.Twice, n))
+load_refused load.Memory = None

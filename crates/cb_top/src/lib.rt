@@ -1,8 +1,8 @@
 //! The top call: from the words of the command line to the printed lines and the outcome.
 #![tactic(auto)]
 
-ghost use Rattle.std.specs.Prelude.{◌≡◌, ◌≢◌, ◌≤◌, [], ◌∷◌, length, map, string_bytes, None, IfOk, IfErr, IsOk};
-ghost use Rattle.std.specs.List.{list_all};
+ghost use Rattle.std.specs.Prelude.{◌≡◌, ◌≢◌, ◌≤◌, [], ◌∷◌, length, map, string_bytes, None, IfOk, IfErr, IsOk, MatchResult};
+ghost use Rattle.std.specs.Option.{option_map};
 ghost use Rattle.cb_model.specs.Commands.{command_of};
 ghost use Rattle.cb_model.specs.Text.{lines_text};
 ghost use Rattle.cb_model.specs.Refusals.{refusal_line, unbuilt};
@@ -10,24 +10,27 @@ ghost use Rattle.cb_model.specs.Outside.{Rose};
 ghost use Rattle.cb_model.specs.Top.{HasUsage, NamesNumber};
 ghost use Rattle.cb_top.specs.Top.{Prints};
 ghost use Rattle.cb_model.specs.Forms.{clause_form};
-ghost use Rattle.cb_model.specs.Loading.{is_fact};
 ghost use Rattle.cb_model.specs.Written.{AreClauses};
+ghost use Rattle.cb_rules.specs.Refused.{Refuses};
 ghost use Rattle.cb_top.specs.Words.{nodes_view};
 ghost use Rattle.cb_top.specs.Refusals.{refusal_view};
-ghost use Rattle.cb_top.specs.Answers.{line_bytes, Decides, ClausesDecide, VerifyAnswers, Answers, BreaksOff, Finishes, VerdictSays, FitsPorts};
+ghost use Rattle.cb_top.specs.Answers.{line_bytes, task_view, Decides, IsSomeRefusal, IsAccepted, Checks, Compares, TaskDecides, ClausesDecide, FileAnswers, Answers, BreaksOff, Finishes, VerdictSays, FitsPorts};
 ghost use Rattle.cb_top.specs.declared.lines.TheConstants.{STOPPED_NODES};
 
-use cb_circ::{first_form, is_fact};
+use cb_circ::first_form;
 use cb_dd::Stop;
 use cb_host::{Files, Load, Sink, Source, write_all};
 use cb_model::RawClause;
 pub use cb_model::{Outcome, Side};
+use cb_sorts::{LoadError, load};
 use cb_syntax::read_clauses;
 use cb_verify::{Verdict, compare};
+use clauses::{have_fact, rule_count};
 use refusals::Refusal;
 use std::alloc::{AllocError, Global};
 use words::{Command, Nodes};
 
+mod clauses;
 mod lines;
 mod refusals;
 mod words;
@@ -95,10 +98,13 @@ impl Answer {
         }
     }
 
-    // The answer of a refusal that names a place in the file.
-    fn placed(alloc: Global, refusal: &Refusal) -> Result<Answer, AllocError>
-        ensures { IfOk result (λ a. (line_bytes a.line ≡ lines_text (refusal_line (refusal_view refusal.now) ∷ [])) × (a.outcome ≡ Outcome.Refused refusal.now.number)) }
+    // The answer of a refusal that names a place in the file; there is none for want of memory.
+    fn placed(alloc: Global, refusal: Option<Refusal>) -> Result<Answer, AllocError>
+        ensures { IfOk result (λ a. IsSomeRefusal (option_map refusal_view refusal) (line_bytes a.line) a.outcome) }
     {
+        let Some(refusal) = refusal else {
+            return Err(AllocError);
+        };
         let line = refusal.line(alloc)?;
         Ok(Answer {
             line: Line::Made(line),
@@ -126,6 +132,13 @@ impl Answer {
     }
 }
 
+// What is asked of a file.
+#[derive(Clone, Copy)]
+enum Task<'w> {
+    Check,
+    Verify { name: &'w str, nodes: Nodes },
+}
+
 // The answer to the words, or the outcome where there is none.
 fn answer_to<F: Files>(alloc: Global, words: &[String], files: &mut F) -> Result<Answer, Outcome>
     ensures answers { IfOk result (λ a. Answers (F.list files.old) (map string_bytes words.now) (line_bytes a.line) a.outcome) }
@@ -134,29 +147,30 @@ fn answer_to<F: Files>(alloc: Global, words: &[String], files: &mut F) -> Result
 {
     match words::command_in(words) {
         None => Ok(Answer::refusal(lines::USAGE, 19)),
-        Some(Command::Verify { file, name, nodes }) => verify(alloc, file, name, nodes, files),
-        Some(Command::Check { .. }) => Ok(Answer::unbuilt()),
+        Some(Command::Check { file }) => over_file(alloc, file, Task::Check, files),
+        Some(Command::Verify { file, name, nodes }) => {
+            over_file(alloc, file, Task::Verify { name, nodes }, files)
+        }
         Some(Command::Run { .. }) => Ok(Answer::unbuilt()),
         Some(Command::Same { .. }) => Ok(Answer::unbuilt()),
         Some(Command::Make { .. }) => Ok(Answer::unbuilt()),
     }
 }
 
-// The answer of `verify`, or the outcome where there is none.
-fn verify<F: Files>(
+// The answer of a task over a file, or the outcome where there is none.
+fn over_file<F: Files>(
     alloc: Global,
     file: &str,
-    name: &str,
-    nodes: Nodes,
+    task: Task<'_>,
     files: &mut F,
 ) -> Result<Answer, Outcome>
-    ensures answers { IfOk result (λ a. VerifyAnswers (F.list files.old) file.now name.now (nodes_view nodes) (line_bytes a.line) a.outcome) }
+    ensures answers { IfOk result (λ a. FileAnswers (F.list files.old) (task_view task.entry) file.now (line_bytes a.line) a.outcome) }
     ensures breaks_off { IfErr result (BreaksOff (F.faults files.old) (F.faults files.new)) }
 {
     let mut bytes = Vec::new(alloc);
     match files.load(file, &mut bytes, FILE_LIMIT) {
         Load::Done => {
-            let Ok(answer) = decide(alloc, name.as_bytes(), nodes, bytes.as_slice()) else {
+            let Ok(answer) = decide(alloc, task, bytes.as_slice()) else {
                 return Err(Outcome::Memory);
             };
             Ok(answer)
@@ -167,21 +181,72 @@ fn verify<F: Files>(
     }
 }
 
-// What `verify` says over the bytes of its file.
-fn decide(alloc: Global, name: &[u8], nodes: Nodes, bytes: &[u8]) -> Result<Answer, AllocError>
+// What a task says over the bytes of its file.
+fn decide(alloc: Global, task: Task<'_>, bytes: &[u8]) -> Result<Answer, AllocError>
     requires { length bytes.now ≤ 4194304 }
-    ensures { IfOk result (λ a. Decides bytes.now name.now (nodes_view nodes) (line_bytes a.line) a.outcome) }
+    ensures { IfOk result (λ a. Decides (task_view task.entry) bytes.now (line_bytes a.line) a.outcome) }
 {
     match read_clauses(alloc, bytes) {
-        Ok(clauses) => compared(alloc, name, nodes, clauses.as_slice()),
-        Err(error) => match refusals::unread(error) {
-            Some(refusal) => Answer::placed(alloc, &refusal),
-            None => Err(AllocError),
-        },
+        Ok(clauses) => over_clauses(alloc, task, clauses.as_slice()),
+        Err(error) => Answer::placed(alloc, refusals::unread(error)),
     }
 }
 
-// What `verify` says over the clauses of its file.
+// What a task says over the clauses of its file.
+fn over_clauses(
+    alloc: Global,
+    task: Task<'_>,
+    clauses: &[RawClause<'_>],
+) -> Result<Answer, AllocError>
+    requires { AreClauses 4194304 (map clause_form clauses.now) }
+    ensures { IfOk result (λ a. ClausesDecide (task_view task.entry) (map clause_form clauses.now) (line_bytes a.line) a.outcome) }
+{
+    match are_accepted(alloc, clauses) {
+        Ok(()) => over_accepted(alloc, task, clauses),
+        Err(error) => Answer::placed(alloc, refusals::unloaded(error)),
+    }
+}
+
+// Whether no directive and no rule is refused.
+fn are_accepted(alloc: Global, clauses: &[RawClause<'_>]) -> Result<(), LoadError>
+    requires { AreClauses 4194304 (map clause_form clauses.now) }
+    ensures { MatchResult result (λ _. IsAccepted (map clause_form clauses.now)) (Refuses (map clause_form clauses.now)) }
+{
+    let program = load(alloc, clauses)?;
+    drop(program);
+    Ok(())
+}
+
+// What a task says over the clauses of an accepted file.
+fn over_accepted(
+    alloc: Global,
+    task: Task<'_>,
+    clauses: &[RawClause<'_>],
+) -> Result<Answer, AllocError>
+    requires { AreClauses 4194304 (map clause_form clauses.now) }
+    ensures { IfOk result (λ a. TaskDecides (task_view task.entry) (map clause_form clauses.now) (line_bytes a.line) a.outcome) }
+{
+    match task {
+        Task::Check => checked(alloc, clauses),
+        Task::Verify { name, nodes } => compared(alloc, name.as_bytes(), nodes, clauses),
+    }
+}
+
+// What `check` says over the clauses of an accepted file.
+fn checked(alloc: Global, clauses: &[RawClause<'_>]) -> Result<Answer, AllocError>
+    ensures { IfOk result (λ a. Checks (map clause_form clauses.now) (line_bytes a.line) a.outcome) }
+{
+    if have_fact(clauses) {
+        return Ok(Answer::unbuilt());
+    }
+    let line = lines::checked_line(alloc, rule_count(clauses), 0)?;
+    Ok(Answer {
+        line: Line::Made(line),
+        outcome: Outcome::Done,
+    })
+}
+
+// What `verify` says over the clauses of an accepted file.
 fn compared(
     alloc: Global,
     name: &[u8],
@@ -189,11 +254,8 @@ fn compared(
     clauses: &[RawClause<'_>],
 ) -> Result<Answer, AllocError>
     requires { AreClauses 4194304 (map clause_form clauses.now) }
-    ensures { IfOk result (λ a. ClausesDecide (map clause_form clauses.now) name.now (nodes_view nodes) (line_bytes a.line) a.outcome) }
+    ensures { IfOk result (λ a. Compares (map clause_form clauses.now) name.now (nodes_view nodes) (line_bytes a.line) a.outcome) }
 {
-    if !are_facts(clauses) {
-        return Ok(Answer::unbuilt());
-    }
     let Some(first) = first_form(alloc, clauses, name)? else {
         return Ok(Answer::unbuilt());
     };
@@ -202,18 +264,6 @@ fn compared(
         Err(Stop::Nodes) => Ok(Answer::stopped()),
         Err(Stop::Memory) => Err(AllocError),
     }
-}
-
-// Whether all clauses are facts of circuits.
-fn are_facts(clauses: &[RawClause<'_>]) -> bool
-    ensures { result ≡ list_all is_fact (map clause_form clauses.now) }
-{
-    for clause in clauses {
-        if !is_fact(clause) {
-            return false;
-        }
-    }
-    true
 }
 
 // The answer of a comparison.

@@ -1,6 +1,6 @@
 //! The texts of printed lines. Each is made whole, with all its memory, before a byte of it is written.
 
-ghost use Rattle.std.specs.Prelude.{◌≡◌, ◌≤◌, ◌-◌, [], ◌∷◌, ◌++◌, map, length, codes, IfOk, OnOk};
+ghost use Rattle.std.specs.Prelude.{◌≡◌, ◌≤◌, ◌-◌, [], ◌∷◌, ◌++◌, map, length, codes, decimal, IfOk, OnOk};
 ghost use Rattle.std.specs.List.{list_all};
 ghost use Rattle.cb_model.specs.Text.{is_word, is_plain, name_text, shown_name, lines_text};
 ghost use Rattle.cb_model.specs.Verdicts.{bit_text, port_texts, at_text, differs_text};
@@ -28,6 +28,19 @@ pub fn verified_line(alloc: Global, name: &[u8]) -> Result<Vec<u8>, AllocError>
     let mut line = Vec::from_slice(alloc, b"verified ")?;
     push_name(&mut line, name)?;
     line.push(b'\n')?;
+    Ok(line)
+}
+
+/// The line of a file that is accepted: how many clauses it has that are no facts of circuits, and how many modules.
+pub fn checked_line(alloc: Global, clauses: usize, modules: usize) -> Result<Vec<u8>, AllocError>
+    ensures { IfOk result (λ v. v.items ≡ lines_text ((codes "checked: " ++ decimal clauses ++ codes " clauses, " ++ decimal modules ++ codes " modules") ∷ [])) }
+{
+    let mut number = Buffer::new();
+    let mut line = Vec::from_slice(alloc, b"checked: ")?;
+    line.extend_from_slice(number.format(clauses).as_bytes())?;
+    line.extend_from_slice(b" clauses, ")?;
+    line.extend_from_slice(number.format(modules).as_bytes())?;
+    line.extend_from_slice(b" modules\n")?;
     Ok(line)
 }
 

@@ -6,8 +6,9 @@ ghost use Rattle.cb_model.specs.Text.{lines_text};
 ghost use Rattle.cb_model.specs.Output.{fault_refused};
 ghost use Rattle.cb_model.specs.Refusals.{refusal_line};
 ghost use Rattle.cb_lex.specs.Faults.{fault_of};
-ghost use Rattle.cb_top.specs.Refusals.{place_text, refusal_view, read_refused};
+ghost use Rattle.cb_top.specs.Refusals.{place_text, refusal_view, read_refused, load_refused};
 
+use cb_directives::LoadError;
 use cb_lex::LexError;
 use cb_syntax::ReadError;
 use itoa::Buffer;
@@ -86,6 +87,19 @@ pub fn unread(error: ReadError) -> Option<Refusal>
         ReadError::Unfinished(line) => Some(at_line(5, line, b"unfinished clause")),
         ReadError::Deep(line) => Some(at_line(6, line, b"nested too deep")),
         ReadError::Memory => None,
+    }
+}
+
+/// The refusal of clauses that are not accepted; `None` for want of memory.
+pub fn unloaded(error: LoadError) -> Option<Refusal>
+    ensures { option_map refusal_view result ≡ load_refused error }
+{
+    match error {
+        LoadError::Directive(line) => Some(at_line(7, line, b"bad directive")),
+        LoadError::SortClash(line) => Some(at_line(8, line, b"sort clash")),
+        LoadError::Unknown(line) => Some(at_line(9, line, b"unknown name")),
+        LoadError::Twice(line) => Some(at_line(10, line, b"declared twice")),
+        LoadError::Memory => None,
     }
 }
 

@@ -5,7 +5,7 @@ use Rattle.cb_model.specs.Refusals.{refusal_line, unbuilt}
 use Rattle.cb_top.specs.Built.{CommandSays}
 use Rattle.cb_top.specs.declared.words.Command.{Command}
 use Rattle.cb_top.specs.Words.{command_view}
-use Rattle.cb_top.proofs.Outputs.{usage-answers, unbuilt-answers, verify-answers, if-ok}
+use Rattle.cb_top.proofs.Outputs.{usage-answers, unbuilt-answers, verify-answers, check-answers, if-ok}
 use Rattle.cb_top.proofs.answer_to.Goals as goal
 
 -- what a command says is said of its words
@@ -18,15 +18,15 @@ returns-in-None-clause-answers g c = usage-answers _ _ _ _ c.in-None.ensures c.r
 
 pub returns-in-Some-Verify-clause-answers : goal.returns-in-Some-Verify-clause-answers
 returns-in-Some-Verify-clause-answers g c =
-    if-ok c.verify.result (λ a h. verify-answers _ _ _ _ _ _ _ (ap (λ x. Some (command_view x)) (sym c.in-Some-Verify.field-0-is) ∙ c.in-Some-Verify.ensures) h) c.verify.ensures.answers
+    if-ok c.over_file-in-Some-Verify.result (λ a h. verify-answers _ _ _ _ _ _ _ (ap (λ x. Some (command_view x)) (sym c.in-Some-Verify.field-0-is) ∙ c.in-Some-Verify.ensures) h) c.over_file-in-Some-Verify.ensures.answers
 
 pub returns-in-Some-Check-clause-answers : goal.returns-in-Some-Check-clause-answers
 returns-in-Some-Check-clause-answers g c =
-    unbuilt-answers _ _ (command_view c.in-Some-Check.field-0) _ _ c.in-Some-Check.ensures (of-command _ _ _ _ c.in-Some-Check.field-0-is (refl, c.unbuilt.ensures.outcome)) c.unbuilt.ensures.line
+    if-ok c.over_file.result (λ a h. check-answers _ _ _ _ _ (ap (λ x. Some (command_view x)) (sym c.in-Some-Check.field-0-is) ∙ c.in-Some-Check.ensures) h) c.over_file.ensures.answers
 
 pub returns-in-Some-Run-clause-answers : goal.returns-in-Some-Run-clause-answers
 returns-in-Some-Run-clause-answers g c =
-    unbuilt-answers _ _ (command_view c.in-Some-Run.field-0) _ _ c.in-Some-Run.ensures (of-command _ _ _ _ c.in-Some-Run.field-0-is (refl, c.unbuilt-in-Some-Run.ensures.outcome)) c.unbuilt-in-Some-Run.ensures.line
+    unbuilt-answers _ _ (command_view c.in-Some-Run.field-0) _ _ c.in-Some-Run.ensures (of-command _ _ _ _ c.in-Some-Run.field-0-is (refl, c.unbuilt.ensures.outcome)) c.unbuilt.ensures.line
 
 pub returns-in-Some-Same-clause-answers : goal.returns-in-Some-Same-clause-answers
 returns-in-Some-Same-clause-answers g c =
