@@ -218,7 +218,12 @@ fn checks_directives_and_sorts(rt: HostRuntime) -> Result<(), Fail> {
 #[test]
 fn verifies_beside_other_clauses(rt: HostRuntime) -> Result<(), Fail> {
     let cases = [
-        (":- constants a.\np(a).", "verified half_adder\n", 0),
+        (
+            ":- constants a.\n:- sorts p(bool).\np(a).",
+            "verified half_adder\n",
+            0,
+        ),
+        (":- constants a.\np(a).", "error: line 4: sort clash\n", 2),
         ("p :- q.", "error: line 3: unknown name\n", 2),
         (":- sorts p(0).", "error: line 3: bad directive\n", 2),
         ("spec(n, [A], [A]).", "error: not built yet\n", 2),
