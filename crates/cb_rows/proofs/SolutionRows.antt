@@ -1,5 +1,5 @@
 -- Solutions, tables, the parametric form, steps and circuits, at small cases.
-use Rattle.std.proofs.Common.{◌≡◌, ℕ, zero, suc, ◌<◌, Bool, true, false, not, List, [], ◌∷◌, ◌++◌, map, length, refl, sym, ◌∙◌, ap, subst, inl, inr, arith, lit<, nat_lt}
+use Rattle.std.proofs.Common.{◌≡◌, ℕ, zero, suc, ◌<◌, Bool, true, false, not, List, [], ◌∷◌, ◌++◌, map, length, refl, sym, ◌∙◌, ap, subst, inl, inr, arith, lit<, nat_lt, pos}
 use Rattle.std.specs.Prelude.{Option, Some, None, ◌==◌, ◌&&◌, option_to_list}
 use Rattle.std.specs.List.{list_all}
 use Rattle.cb_model.specs.declared.Sort.TheVariants as sort
@@ -12,20 +12,19 @@ use Rattle.cb_model.specs.declared.Tree.TheVariants as tree
 use Rattle.cb_model.specs.declared.Tree.TheOpen.{Tree-F}
 use Rattle.cb_model.specs.declared.Tree.TheFolds.{fold-roll-Tree}
 use Rattle.cb_model.specs.declared.GateKind.TheVariants as gate
-use Rattle.cb_model.specs.Bits.{none, xor, all_of, AgreeBelow}
-use Rattle.cb_model.specs.Values.{Ground, Bit, Word, Name, More, Fits, in_scope, in_scope_step, tree_in_scope, tree_in_scope_step}
-use Rattle.cb_model.specs.Equations.{SolvedAt, Refuted, ReadsBelow, ReadsOnly, Solves}
+use Rattle.cb_model.specs.Bits.{Bits, Each, none, xor, all_of, AgreeBelow}
+use Rattle.cb_model.specs.Values.{IsValuation, Ground, Bit, Word, Name, More, Fits, in_scope, in_scope_step, tree_in_scope, tree_in_scope_step}
+use Rattle.cb_model.specs.Equations.{SolvedAt, Refuted, ReadsBelow, ReadsOnly, Solves, TableBit, TableInt, TableName, NoTabled, OneTabled, TabledBelow, valued}
 use Rattle.cb_model.specs.Derivation.{Entry, Run, Try, Step, Answered, Dropped, Adds, event_of}
 use Rattle.cb_model.specs.Answers.{Picks, Gen, Denotes}
 use Rattle.cb_model.specs.Circuits.{Ordered, Consistent}
 use Rattle.cb_model.specs.Sound.{IsSound, HasOneValuation}
 use Rattle.cb_laws.proofs.Values.{expr_values, tree_values}
 use Rattle.cb_laws.proofs.Tables.{with_bits, zero_fits, bits_equal}
-use Rattle.cb_laws.proofs.OneValuation as law
 use Rattle.cb_rows.specs.TryRow as try
 use Rattle.cb_rows.proofs.TryRow as try_proof
 use Rattle.cb_rows.specs.CircuitGoalRow.{half}
-use Rattle.cb_rows.specs.SolutionExamples.{arguments, world, zeros, ones, at_one, items, only_at_ones, bit_for_term, constant, always, with_tables, differing, without_beginning, half_beginning, Passes, below, answer, fails, turning, SolutionExamples}
+use Rattle.cb_rows.specs.SolutionExamples.{first_or, arguments, world, zeros, ones, at_one, items, only_at_ones, bit_for_term, constant, always, with_tables, differing, without_beginning, half_beginning, Passes, below, answer, fails, turning, SolutionExamples}
 
 -- ---- scope
 
@@ -72,10 +71,14 @@ values_fit h =
 
 -- ---- tables
 
+sorted : (a : Bits) → IsValuation world (valued (with_tables (constant 0) (constant 0) (constant 0)) a)
+sorted a zero = (tt, tt)
+sorted a (suc n) = zero_fits
+
 solves : Solves world items (with_tables (constant 0) (constant 0) (constant 0))
 solves a ok = record {
   admitted = tt;
-  sorted = λ n. (tt, tt);
+  sorted = sorted a;
   sat = (simp (tree_values, expr_values) refl, (simp (tree_values, expr_values) refl, (simp (tree_values, expr_values) refl, tt)));
 }
 
@@ -104,6 +107,18 @@ reads_below a a' h = ap (λ x. xor x (a 1)) (h 0 (lit< tt)) ∙ ap (xor (a' 0)) 
 
 reads_first : ReadsBelow 1 (constant 0)
 reads_first a a' h = h 0 (lit< tt)
+
+reads_bits : (n : ℕ) → ReadsBelow 1 (first_or (constant 0) always n)
+reads_bits zero = reads_first
+reads_bits (suc n) = λ a a' h. refl
+
+reads_words : (n : ℕ) → Each (ReadsBelow 1) (first_or (constant 0 ∷ []) [] n)
+reads_words zero = (reads_first, tt)
+reads_words (suc n) = tt
+
+reads_terms : (n : ℕ) → TabledBelow 1 (first_or (TableName 0 (OneTabled (TableBit (constant 0)) NoTabled)) (TableInt (pos 0)) n)
+reads_terms zero = (reads_first, tt)
+reads_terms (suc n) = tt
 
 reads_second : ReadsBelow 1 (constant 1) → ⊥
 reads_second h = let e : false ≡ true = h zeros at_one agree_below in cc
@@ -194,8 +209,18 @@ own_net h = let e : 0 < 0 = h.1.0 in omega arith
 half_sound : IsSound half
 half_sound = record { nets = refl; ordered = half_ordered; pins = (refl, (refl, tt)); outputs = (lit< tt, (lit< tt, tt)); small = lit< tt }
 
+only_this : (w : List Bool) → Consistent half (true ∷ true ∷ []) w → w ≡ true ∷ true ∷ false ∷ true ∷ []
+only_this [] k = let n = k.every_net in absurd (omega arith)
+only_this (a ∷ []) k = let n = k.every_net in absurd (omega arith)
+only_this (a ∷ b ∷ []) k = let n = k.every_net in absurd (omega arith)
+only_this (a ∷ b ∷ s ∷ []) k = let n = k.every_net in absurd (omega arith)
+only_this (true ∷ true ∷ s ∷ c ∷ []) k = ap (λ x. true ∷ true ∷ x ∷ c ∷ []) k.gates.0 ∙ ap (λ y. true ∷ true ∷ false ∷ y ∷ []) k.gates.1.0
+only_this (true ∷ false ∷ s ∷ c ∷ []) k = let e : true ∷ false ∷ [] ≡ true ∷ true ∷ [] = k.inputs in absurd (cc)
+only_this (false ∷ b ∷ s ∷ c ∷ []) k = let e : false ∷ b ∷ [] ≡ true ∷ true ∷ [] = k.inputs in absurd (cc)
+only_this (a ∷ b ∷ s ∷ c ∷ d ∷ ws) k = let n = k.every_net in absurd (omega arith)
+
 one_valuation : HasOneValuation half (true ∷ true ∷ [])
-one_valuation = let r = law.one_valuation half (true ∷ true ∷ []) refl half_ordered refl in record { v = r.0; consistent = r.1; only = r.2 }
+one_valuation = record { v = true ∷ true ∷ false ∷ true ∷ []; consistent = record { every_net = refl; inputs = refl; gates = (refl, (refl, tt)) }; only = only_this }
 
 not_itself : (x : Bool) → x ≡ not x → ⊥
 not_itself true e = cc
@@ -234,7 +259,7 @@ rows_hold = record {
   agree_below = agree_below;
   reads_below = reads_below;
   reads_past = λ h. let e : false ≡ true = h zeros at_one agree_below in cc;
-  reads_only = record { bits = λ n. reads_first; words = λ n. (reads_first, tt); terms = λ n. (reads_first, tt) };
+  reads_only = record { bits = reads_bits; words = reads_words; terms = reads_terms };
   reads_bit = λ h. reads_second (h.bits 0);
   reads_word = λ h. reads_second (h.words 0).0;
   reads_term = λ h. reads_second (h.terms 0).0;
@@ -269,6 +294,8 @@ rows_hold = record {
   one_pin = λ h. let e : false ≡ true = h.pins.0 in cc;
   reads_own = λ h. own_net h.ordered;
   one_more_net = λ h. let e : true ≡ false = ap (λ n. n == 5) h.nets in cc;
+  most_nets = record { nets = refl; ordered = tt; pins = tt; outputs = tt; small = lit< tt };
+  too_many_nets = λ h. let s = h.small in omega arith;
   one_valuation = one_valuation;
   no_valuation = λ h. not_itself _ h.consistent.gates.0;
   two_valuations = two_valuations;

@@ -1,5 +1,5 @@
 -- Worked solutions: values by sorts, equations at one assignment and at all, tables, the parametric form, steps, and circuits with one valuation.
-use Rattle.std.specs.Prelude.{◌≡◌, ◌⊎◌, ℕ, zero, suc, ◌==◌, Bool, true, false, not, ◌&&◌, List, [], ◌∷◌, map, codes, Option, Some, None, pos}
+use Rattle.std.specs.Prelude.{◌≡◌, ◌⊎◌, ℕ, zero, suc, ◌-◌, ◌^◌, ◌==◌, Bool, true, false, not, ◌&&◌, List, [], ◌∷◌, map, codes, Option, Some, None, pos}
 use Rattle.cb_model.specs.declared.Sort.TheVariants as sort
 use Rattle.cb_model.specs.declared.Expr.TheVariants as expr
 use Rattle.cb_model.specs.declared.Tree.TheVariants as tree
@@ -62,9 +62,18 @@ constant n a = a n
 abbrev pub always : Table
 always a = true
 
--- these tables for the variables of each sort
+-- one for variable 0, and another for the others
+abbrev pub first_or : {A : Type 0} → A → A → ℕ → A
+first_or x y zero = x
+first_or x y (suc n) = y
+
+-- these tables for the first variable of each sort, and for the others what has no constants
 abbrev pub with_tables : Table → Table → Table → Substitution
-with_tables f g h = record { bits = λ n. f; words = λ n. g ∷ []; terms = λ n. TableName 0 (OneTabled (TableBit h) NoTabled) }
+with_tables f g h = record {
+  bits = first_or f always;
+  words = first_or (g ∷ []) [];
+  terms = first_or (TableName 0 (OneTabled (TableBit h) NoTabled)) (TableInt (pos 0));
+}
 
 -- `circuit(half, [a, b], [S, C])`, whose own variables are the third and the fourth
 abbrev pub half_item : Item
@@ -192,6 +201,9 @@ pub record SolutionExamples : Type 0 where
   pub one_pin : IsSound (record half { nets = 3; gates = gate_at gate.And (0 ∷ []) 2 ∷ []; outputs = [] }) → ⊥
   pub reads_own : IsSound (turning gate.Not) → ⊥
   pub one_more_net : IsSound (record half { nets = 5 }) → ⊥
+  -- the numbers of nets fit 32 bits
+  pub most_nets : IsSound (record half { inputs = 2 ^ 32 - 1; nets = 2 ^ 32 - 1; gates = []; outputs = [] })
+  pub too_many_nets : IsSound (record half { inputs = 2 ^ 32; nets = 2 ^ 32; gates = []; outputs = [] }) → ⊥
   -- one valuation, none, and two
   pub one_valuation : HasOneValuation half (true ∷ true ∷ [])
   pub no_valuation : HasOneValuation (turning gate.Not) [] → ⊥
