@@ -63,8 +63,10 @@ rows_hold = record {
   four_terms = record { written = refl; few = lit≤ tt; few_goals = lit≤ tt; few_terms = lit≤ tt };
   not_three = λ a. let h = a.few_terms in omega arith;
   five_together = λ a. let h = a.few_terms in omega arith;
+  no_query = record { written = refl; few = lit≤ tt; few_goals = lit≤ tt; few_terms = lit≤ tt };
   one_query = record { written = refl; few = lit≤ tt; few_goals = lit≤ tt; few_terms = lit≤ tt };
   without_goals = λ a. let h = a.written in cc;
+  no_clause = record { written = refl; few = lit≤ tt; few_goals = lit≤ tt; few_terms = lit≤ tt };
   one_clause = record { written = refl; few = lit≤ tt; few_goals = lit≤ tt; few_terms = lit≤ tt };
   three_terms = record { written = refl; few = lit≤ tt; few_goals = lit≤ tt; few_terms = lit≤ tt };
   not_two = λ a. let h = a.few_terms in omega arith;

@@ -24,7 +24,7 @@ use Rattle.cb_laws.proofs.Tables.{with_bits, zero_fits, bits_equal}
 use Rattle.cb_rows.specs.TryRow as try
 use Rattle.cb_rows.proofs.TryRow as try_proof
 use Rattle.cb_rows.specs.CircuitGoalRow.{half}
-use Rattle.cb_rows.specs.SolutionExamples.{first_or, arguments, world, zeros, ones, at_one, items, only_at_ones, bit_for_term, constant, always, with_tables, differing, without_beginning, half_beginning, Passes, below, answer, fails, turning, SolutionExamples}
+use Rattle.cb_rows.specs.SolutionExamples.{first_or, arguments, world, zeros, ones, at_one, bit_item, items, only_at_ones, bit_for_term, constant, always, with_tables, differing, without_beginning, half_beginning, Passes, below, answer, fails, turning, SolutionExamples}
 
 -- ---- scope
 
@@ -63,6 +63,9 @@ refuted = record {
   admitted = tt;
   none = λ b sorted s. let e : false ≡ true = bits_equal false true (simp (tree_values, expr_values) at s.0) in cc;
 }
+
+not_refuted : Refuted world (bit_item ∷ []) → ⊥
+not_refuted r = r.none (with_bits (λ n. r.a 0)) (λ n. zero_fits) (simp (tree_values, expr_values) refl, tt)
 
 values_fit : SolvedAt world bit_for_term ones → ⊥
 values_fit h =
@@ -251,6 +254,7 @@ rows_hold = record {
   not_solved = λ h. let e : false ≡ true = bits_equal false true (simp (tree_values, expr_values) at h.sat.0) in cc;
   not_solvable = λ h. let e : false ≡ true = bits_equal false true (simp (tree_values, expr_values) at (h zeros tt).sat.0) in cc;
   refuted = refuted;
+  not_refuted = not_refuted;
   values_fit = values_fit;
   solves = solves;
   wrong_bit = wrong_bit;

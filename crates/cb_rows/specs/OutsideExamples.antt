@@ -59,8 +59,10 @@ pub record OutsideExamples : Type 0 where
   pub four_terms : AreQueries 4 (two_goals ∷ [])
   pub not_three : AreQueries 3 (two_goals ∷ []) → ⊥
   pub five_together : AreQueries 4 (two_goals ∷ one_goal ∷ []) → ⊥
+  pub no_query : AreQueries 0 []
   pub one_query : AreQueries 1 (one_goal ∷ [])
   pub without_goals : AreQueries 9 (record { line = 1; goals = [] } ∷ []) → ⊥
+  pub no_clause : AreClauses 0 []
   pub one_clause : AreClauses 1 (one_fact ∷ [])
   pub three_terms : AreClauses 3 (a_directive ∷ [])
   pub not_two : AreClauses 2 (a_directive ∷ []) → ⊥

@@ -145,6 +145,7 @@ pub record SolutionExamples : Type 0 where
   pub not_solved : SolvedAt world only_at_ones zeros → ⊥
   pub not_solvable : Solvable world only_at_ones → ⊥
   pub refuted : Refuted world only_at_ones
+  pub not_refuted : Refuted world (bit_item ∷ []) → ⊥
   pub values_fit : SolvedAt world bit_for_term ones → ⊥
   -- tables for variables of all sorts
   pub solves : Solves world items (with_tables (constant 0) (constant 0) (constant 0))
