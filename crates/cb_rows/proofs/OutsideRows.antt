@@ -1,14 +1,13 @@
 -- What the outside tells, by computation and by cases of what is written.
-use Rattle.std.proofs.Common.{◌≡◌, ℕ, true, false, List, [], ◌∷◌, ◌++◌, refl, sym, ◌∙◌, ap, inl, inr, codes, arith, lit≤, append_assoc}
+use Rattle.std.proofs.Common.{◌≡◌, ℕ, true, false, [], ◌++◌, refl, sym, ◌∙◌, ap, inl, inr, codes, arith, lit≤, append_assoc}
 use Rattle.std.specs.Prelude.{Option, Some, None, bytes_eq, ◌⊎◌, ◌==◌}
 use Rattle.std.specs.Fmt.{digits}
 use Rattle.cb_model.specs.Text.{Text}
-use Rattle.cb_model.specs.Written.{AreClauses, AreQueries}
-use Rattle.cb_model.specs.Outside.{Rose, Wrote}
+use Rattle.cb_model.specs.Outside.{Wrote}
 use Rattle.cb_model.specs.declared.Outcome.{Outcome}
 use Rattle.cb_model.specs.declared.Outcome.TheVariants as outcome
 use Rattle.cb_model.specs.declared.Side.TheVariants as side
-use Rattle.cb_rows.specs.OutsideExamples.{two_goals, one_goal, a_directive, check_words, strange_words, OutsideExamples}
+use Rattle.cb_rows.specs.OutsideExamples.{OutsideExamples}
 
 -- the text that is told
 abbrev text_of : Option Text → Text

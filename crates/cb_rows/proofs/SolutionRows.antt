@@ -1,5 +1,5 @@
 -- Solutions, tables, the parametric form, steps and circuits, at small cases.
-use Rattle.std.proofs.Common.{◌≡◌, ℕ, zero, suc, ◌<◌, Bool, true, false, not, List, [], ◌∷◌, ◌++◌, map, length, refl, sym, ◌∙◌, ap, subst, inl, inr, arith, lit<, nat_lt, pos}
+use Rattle.std.proofs.Common.{◌≡◌, ℕ, zero, suc, ◌<◌, Bool, true, false, not, List, [], ◌∷◌, ◌++◌, map, refl, sym, ◌∙◌, ap, subst, inl, inr, arith, lit<, nat_lt, pos}
 use Rattle.std.specs.Prelude.{Option, Some, None, ◌==◌, ◌&&◌, option_to_list}
 use Rattle.std.specs.List.{list_all}
 use Rattle.cb_model.specs.declared.Sort.TheVariants as sort
@@ -14,7 +14,7 @@ use Rattle.cb_model.specs.declared.Tree.TheFolds.{fold-roll-Tree}
 use Rattle.cb_model.specs.declared.GateKind.TheVariants as gate
 use Rattle.cb_model.specs.Bits.{Bits, Each, none, xor, all_of, AgreeBelow}
 use Rattle.cb_model.specs.Values.{IsValuation, Ground, Bit, Word, Name, More, Fits, in_scope, in_scope_step, tree_in_scope, tree_in_scope_step}
-use Rattle.cb_model.specs.Equations.{SolvedAt, Refuted, ReadsBelow, ReadsOnly, Solves, TableBit, TableInt, TableName, NoTabled, OneTabled, TabledBelow, valued}
+use Rattle.cb_model.specs.Equations.{SolvedAt, Refuted, ReadsBelow, Solves, TableBit, TableInt, TableName, NoTabled, OneTabled, TabledBelow, valued}
 use Rattle.cb_model.specs.Derivation.{Entry, Run, Try, Step, Answered, Dropped, Adds, event_of}
 use Rattle.cb_model.specs.Answers.{Picks, Gen, Denotes}
 use Rattle.cb_model.specs.Circuits.{Ordered, Consistent}

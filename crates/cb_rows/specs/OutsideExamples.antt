@@ -4,9 +4,9 @@ use Rattle.cb_model.specs.declared.Outcome.TheVariants as outcome
 use Rattle.cb_model.specs.declared.Side.TheVariants as side
 use Rattle.cb_model.specs.Text.{Text}
 use Rattle.cb_model.specs.Tokens.{line_at}
-use Rattle.cb_model.specs.Grammar.{Last, More, one, Name, Variable, Integer, Not, FormGoal, ACall, AnEqual, FormClause, Directive, Rule, FormQuery}
+use Rattle.cb_model.specs.Grammar.{Last, More, one, Name, Variable, Integer, Not, ACall, AnEqual, FormClause, Directive, Rule, FormQuery}
 use Rattle.cb_model.specs.Written.{AreClauses, AreQueries, line_of_clause}
-use Rattle.cb_model.specs.Commands.{Command, Check, Run, Verify, Same, Make, Max, Only, IsNumber, file_name}
+use Rattle.cb_model.specs.Commands.{Check, Run, Verify, Same, Make, Max, Only, IsNumber, file_name}
 use Rattle.cb_model.specs.Outcomes.{status_of}
 use Rattle.cb_model.specs.Outside.{Rose, Wrote, bytes_named}
 use Rattle.cb_model.specs.Refusals.{unbuilt, refusal_line}

@@ -1,5 +1,5 @@
 -- Worked solutions: values by sorts, equations at one assignment and at all, tables, the parametric form, steps, and circuits with one valuation.
-use Rattle.std.specs.Prelude.{◌≡◌, ◌⊎◌, ℕ, zero, suc, ◌-◌, ◌^◌, ◌==◌, Bool, true, false, not, ◌&&◌, List, [], ◌∷◌, map, codes, Option, Some, None, pos}
+use Rattle.std.specs.Prelude.{◌≡◌, ℕ, zero, suc, ◌-◌, ◌^◌, ◌==◌, Bool, true, false, not, ◌&&◌, List, [], ◌∷◌, map, Some, None, pos}
 use Rattle.cb_model.specs.declared.Sort.TheVariants as sort
 use Rattle.cb_model.specs.declared.Expr.TheVariants as expr
 use Rattle.cb_model.specs.declared.Tree.TheVariants as tree
@@ -9,7 +9,7 @@ use Rattle.cb_model.specs.declared.GateKind.{GateKind}
 use Rattle.cb_model.specs.declared.Gate.{Gate}
 use Rattle.cb_model.specs.declared.Circuit.{Circuit}
 use Rattle.cb_model.specs.Bits.{Bits, first_bits, some_bits, every_bits, odd_of, some_of, xor, AgreeBelow}
-use Rattle.cb_model.specs.Values.{World, Sorts, Fits, Bit, Word, Int, Name, Last, More, in_scope, tree_in_scope}
+use Rattle.cb_model.specs.Values.{World, Sorts, Fits, Bit, Word, Name, Last, More, in_scope, tree_in_scope}
 use Rattle.cb_model.specs.Equations.{Item, Pair, Part, SolvedAt, Solvable, Refuted, Table, ReadsBelow, TableBit, TableInt, TableName, NoTabled, OneTabled, Substitution, Solves, ReadsOnly, item_in_scope}
 use Rattle.cb_model.specs.Derivation.{Branch, Entry, Run, Try, Step, first_branch}
 use Rattle.cb_model.specs.Answers.{Gen, Denotes}
