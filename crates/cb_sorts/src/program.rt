@@ -1,17 +1,27 @@
 //! A program after its reading.
 
-ghost use Rattle.std.specs.Prelude.{◌≡◌, ◌<◌, ◌≤◌, suc, Some, drop, length, get_or, slice_get};
+ghost use Rattle.std.specs.Prelude.{◌≡◌, ◌<◌, ◌≤◌, suc, true, List, Some, drop, length, get_or, slice_get, MatchResult};
 ghost use Rattle.std.specs.Option.{option_map};
 ghost use Rattle.cb_model.specs.declared.When.TheVariants as when;
 ghost use Rattle.cb_model.specs.declared.Clause.{Clause};
-ghost use Rattle.cb_model.specs.Directives.{Sign, has_sign};
-ghost use Rattle.cb_model.specs.Loading.{words_named};
+ghost use Rattle.cb_model.specs.Grammar.{FormClause};
+ghost use Rattle.cb_model.specs.Written.{query_written};
+ghost use Rattle.cb_model.specs.Forms.{query_form};
+ghost use Rattle.cb_model.specs.Directives.{Sign, has_sign, heads};
+ghost use Rattle.cb_model.specs.Loading.{words_named, module_names, query_body};
 ghost use Rattle.cb_model.specs.Program.{clause_of, first_from};
+ghost use Rattle.cb_rules.specs.Refused.{RefusesBody};
+ghost use Rattle.cb_sorts.specs.Source.{Loads};
+ghost use Rattle.cb_sorts.specs.Asked.{Asks};
 
+use crate::asking::asked;
 use crate::chained::ChainedRules;
 use crate::names::FileNames;
-use cb_directives::Declarations;
-use cb_model::{ClauseView, When};
+use crate::query::Query;
+use cb_directives::{Declarations, LoadError};
+use cb_model::{ClauseView, RawQuery, When};
+use cb_rules::Given;
+use std::alloc::Global;
 use std::marker::Model;
 
 /// The program of a file: its rules with the sorts of their variables, and what its directives declare. It keeps
@@ -119,5 +129,20 @@ impl<'s> Program<'s> {
     {
         let (name, _) = self.known.names.sign(number as usize);
         name
+    }
+
+    /// A query over the program, or its refusal with its line. Names that the program lacks get the next numbers in
+    /// the order of their appearance.
+    pub fn query(&self, alloc: Global, raw: &RawQuery<'s>) -> Result<Query<'s>, LoadError>
+        requires { query_written (query_form raw.now) ≡ true }
+        ensures { (cs : List FormClause) → Loads cs self.now → MatchResult result (Asks self.now.declared (heads cs) self.now.names (module_names cs) (query_form raw.now).goals) (RefusesBody self.now.declared (heads cs) (module_names cs) (query_body (query_form raw.now).goals) raw.now.line) }
+    {
+        let given = Given {
+            declared: &self.declared,
+            heads: &self.known.heads,
+            modules: &self.known.modules,
+            names: &self.known.names,
+        };
+        asked(alloc, &given, raw.line, raw.goals.as_slice())
     }
 }
