@@ -22,3 +22,5 @@ pub mod OutputRows
 pub mod DetailRows
 pub mod LimitRows
 pub mod FormRow
+pub mod OutsideRows
+pub mod SolutionRows

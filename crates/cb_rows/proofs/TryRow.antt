@@ -31,7 +31,7 @@ abbrev argument : Ground → Ground
 argument (Name n (More g gs)) = g
 argument g = g
 
-calls_zero : Solvable p.world (called expr.Zero).items
+pub calls_zero : Solvable p.world (called expr.Zero).items
 calls_zero a ok = record { b = with_bits (λ n. false); sorted = λ n. zero_fits; sat = (simp (shift-leaf, shift-zero, tree_values, expr_values) refl, tt) }
 
 pub calls_one : Solvable p.world (called expr.One).items
@@ -44,7 +44,7 @@ answers_one a ok = record {
   sat = (simp (shift-leaf, shift-one, tree_values, expr_values) refl, (simp (tree_values, expr_values) refl, tt));
 }
 
-zero_not_one : Refuted p.world (equated expr.Zero).items
+pub zero_not_one : Refuted p.world (equated expr.Zero).items
 zero_not_one = record {
   a = λ n. false;
   admitted = tt;

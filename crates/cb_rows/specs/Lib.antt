@@ -20,3 +20,5 @@ pub mod OutputExamples
 pub mod DetailExamples
 pub mod LimitExamples
 pub mod FormExamples
+pub mod OutsideExamples
+pub mod SolutionExamples

@@ -7,8 +7,10 @@ ghost use Rattle.cb_rows.specs.FileExamples.{FileExamples};
 ghost use Rattle.cb_rows.specs.FormExamples.{FormExamples};
 ghost use Rattle.cb_rows.specs.LimitExamples.{LimitExamples};
 ghost use Rattle.cb_rows.specs.OutputExamples.{OutputExamples};
+ghost use Rattle.cb_rows.specs.OutsideExamples.{OutsideExamples};
 ghost use Rattle.cb_rows.specs.QueryExamples.{QueryExamples};
 ghost use Rattle.cb_rows.specs.RoomExamples.{RoomExamples};
+ghost use Rattle.cb_rows.specs.SolutionExamples.{SolutionExamples};
 ghost use Rattle.cb_rows.specs.TextExamples.{TextExamples};
 
 /// Worked circuits: gates, flattening, comparisons and the generated adder.
@@ -41,6 +43,11 @@ pub fn output_examples()
     ensures { OutputExamples }
 {}
 
+/// Worked words, outcomes, lines of places, counts of written texts, and what is told of the outside.
+pub fn outside_examples()
+    ensures { OutsideExamples }
+{}
+
 /// Worked queries with the lines that they print.
 pub fn query_examples()
     ensures { QueryExamples }
@@ -49,6 +56,11 @@ pub fn query_examples()
 /// Worked numbers of the bounds on nodes, and what they allow.
 pub fn room_examples()
     ensures { RoomExamples }
+{}
+
+/// Worked solutions: equations and tables, the parametric form, single steps, and circuits with one valuation.
+pub fn solution_examples()
+    ensures { SolutionExamples }
 {}
 
 /// Worked texts: tokens, clauses, nestings and faults.

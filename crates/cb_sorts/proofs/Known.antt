@@ -1,7 +1,7 @@
 -- The names of heads are among the wanted names.
 use Rattle.std.specs.Prelude.{All, unwrap_or}
 use Rattle.std.specs.Bool.{if◌then◌else◌}
-use Rattle.std.proofs.Common.{◌≡◌, ℕ, zero, suc, ◌+◌, ◌<◌, Bool, true, false, cond, ◌&&◌, ◌||◌, List, [], ◌∷◌, ◌++◌, length, position, Option, Some, None, refl, sym, ◌∙◌, ap, subst, arith}
+use Rattle.std.proofs.Common.{◌≡◌, ℕ, zero, suc, ◌+◌, ◌<◌, ◌≤◌, Bool, true, false, cond, ◌&&◌, ◌||◌, List, [], ◌∷◌, ◌++◌, length, position, Option, Some, None, refl, sym, ◌∙◌, ap, subst, arith}
 use Rattle.std.specs.List.{list_all}
 use Rattle.std.proofs.lemmas.List.{append_assoc}
 use Rattle.std.proofs.lemmas.Bool.Decides.{nat_tests}
@@ -96,3 +96,13 @@ preds_below d names ms cs xs w h (a_clause {n = n} {f = f} {bodied = b} {gs = gs
     all_cons (length names) c ys (subst (λ m. m < length names) (sym i.pred) (number_below names (head_sign f) there))
     (preds_below d names ms rest ys (and_right (clause_written (Rule n f b gs)) (list_all clause_written rest) w)
     (all_right (has_sign names) (goals_signs gs) (clauses_signs rest) (all_right (has_sign names) (signs_of f) (goals_signs gs ++ clauses_signs rest) s)) p)
+
+-- a file gives no more clauses than it has
+pub few_clauses : (d : Declared) (names : List Sign) (ms : List (Option Text)) (cs : List FormClause) (xs : List Clause) → AreClauses d names ms cs xs → length xs ≤ length cs
+few_clauses d names ms cs xs no_clauses = omega arith
+few_clauses d names ms cs xs (skips {cs = rest} e p) =
+    let low : length xs ≤ length rest = few_clauses d names ms rest xs p in omega arith
+few_clauses d names ms cs xs (skips_directive {cs = rest} p) =
+    let low : length xs ≤ length rest = few_clauses d names ms rest xs p in omega arith
+few_clauses d names ms cs xs (a_clause {cs = rest} {xs = ys} e i p) =
+    let low : length ys ≤ length rest = few_clauses d names ms rest ys p in omega arith

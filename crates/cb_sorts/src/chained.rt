@@ -1,6 +1,6 @@
 //! The rules of a file, chained by predicate.
 
-ghost use Rattle.std.specs.Prelude.{◌≡◌, true, false, None, map, length, AllPairs, IfOk, MatchResult};
+ghost use Rattle.std.specs.Prelude.{◌≡◌, ◌≤◌, true, false, None, map, length, AllPairs, IfOk, MatchResult};
 ghost use Rattle.std.specs.List.{list_all};
 ghost use Rattle.cb_model.specs.Forms.{clause_form};
 ghost use Rattle.cb_model.specs.Written.{clause_written};
@@ -33,11 +33,13 @@ pub(crate) fn chained_rules<'s>(
     clauses: &[RawClause<'s>],
 ) -> Result<ChainedRules, LoadError>
     requires written { list_all clause_written (map clause_form clauses.now) ≡ true }
+    requires few { length (map clause_form clauses.now) ≤ 4194304 }
     requires heads { (a : Sign) → has_sign known.now.heads a ≡ has_sign (heads_of (map clause_form clauses.now)) a }
     requires modules { AreNumbers (module_names (map clause_form clauses.now)) known.now.modules }
     requires wanted { list_all (has_sign known.now.names) (clauses_signs (map clause_form clauses.now)) ≡ true }
     ensures rules { MatchResult result (λ r. RulesRefusal declared.now (heads_of (map clause_form clauses.now)) (module_names (map clause_form clauses.now)) (map clause_form clauses.now) None × AreClauses declared.now known.now.names (module_names (map clause_form clauses.now)) (map clause_form clauses.now) r.clauses) (RefusesRules declared.now (heads_of (map clause_form clauses.now)) (module_names (map clause_form clauses.now)) (map clause_form clauses.now)) }
     ensures distinct { IfOk result (λ _. AllPairs (λ a b. same_sign a b ≡ false) known.now.names) }
+    ensures few { IfOk result (λ r. length r.clauses ≤ 4194304) }
     ensures chained { IfOk result (λ r. AreChained r.clauses (length known.now.names) r.chains) }
 {
     let given = Given {

@@ -1,13 +1,13 @@
-use Rattle.std.specs.Prelude.{All, ◌<◌}
+use Rattle.std.specs.Prelude.{All, ◌<◌, ◌≤◌}
 use Rattle.cb_model.specs.declared.Clause.{Clause}
 use Rattle.cb_chains.specs.Chained.{AreChained}
-use Rattle.std.proofs.Common.{List, map, length, sym, subst}
+use Rattle.std.proofs.Common.{List, map, length, sym, subst, arith}
 use Rattle.std.proofs.lemmas.Result.{err_from_is_err_and}
 use Rattle.cb_model.specs.Forms.{clause_form}
 use Rattle.cb_model.specs.Directives.{heads}
 use Rattle.cb_model.specs.Loading.{module_names}
 use Rattle.cb_rules.proofs.InOrder.{refuses_same, rules_same}
-use Rattle.cb_sorts.proofs.Known.{preds_below}
+use Rattle.cb_sorts.proofs.Known.{preds_below, few_clauses}
 use Rattle.cb_sorts.proofs.chained.chained_rules.Goals as goal
 
 pub returns-in_err-clauses-clause-rules : goal.returns-in_err-clauses-clause-rules
@@ -37,3 +37,12 @@ pub returns-clause-chained : goal.returns-clause-chained
 returns-clause-chained c =
     subst (λ (l : List Clause). AreChained l (length c.args.known.now.names) c.in-Ok.chains) c.as_slice.ensures
     (subst (λ n. AreChained c.as_slice.result.now n c.in-Ok.chains) c.len.ensures.len c.in-Ok.ensures)
+
+pub returns-clause-few : goal.returns-clause-few
+returns-clause-few c =
+    let cs = map clause_form c.args.clauses.now in
+    let names = c.args.known.now.names in
+    let read = c.in_ok-clauses.ensures (module_names cs) c.requires.modules in
+    let low : length c.in_ok-clauses.clauses ≤ length cs = few_clauses c.args.declared.now names (module_names cs) cs c.in_ok-clauses.clauses read.1 in
+    let high : length cs ≤ 4194304 = c.requires.few in
+    omega arith

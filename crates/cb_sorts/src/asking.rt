@@ -1,0 +1,91 @@
+//! The reading of a query over a program.
+
+ghost use Rattle.std.specs.Prelude.{◌≡◌, true, map, length, IfOk, MatchResult, List, Option, None};
+ghost use Rattle.std.specs.List.{list_all};
+ghost use Rattle.cb_model.specs.Text.{Text};
+ghost use Rattle.cb_model.specs.Written.{goal_written};
+ghost use Rattle.cb_model.specs.Forms.{goal_form};
+ghost use Rattle.cb_model.specs.Loading.{query_body, BodyRefusal};
+ghost use Rattle.cb_marking.specs.Marking.{IsMarking};
+ghost use Rattle.cb_known.specs.Modules.{AreNumbers};
+ghost use Rattle.cb_rules.specs.Refused.{RefusesBody};
+ghost use Rattle.cb_sorts.specs.Asked.{Asks};
+
+use crate::query::Query;
+use cb_directives::LoadError;
+use cb_known::has_unknown;
+use cb_marking::{Marking, mark_query};
+use cb_marks::Stop;
+use cb_model::RawGoal;
+use cb_names::Signs;
+use cb_rules::{Given, body_goals};
+use cb_signs::add_goals;
+use cb_trees::Numbers;
+use std::alloc::{AllocError, Global};
+
+/// The sorts of a query that is not refused.
+fn checked<'s>(
+    alloc: Global,
+    given: &Given<'_, 's>,
+    line: u32,
+    body: &[RawGoal<'s>],
+) -> Result<Marking<'s>, LoadError>
+    requires { list_all goal_written (map goal_form body.now) ≡ true }
+    ensures marking { IfOk result (λ m. IsMarking given.now.declared.now (query_body (map goal_form body.now)) m) }
+    ensures refusal { (ms : List (Option Text)) → AreNumbers ms given.now.modules.now → MatchResult result (λ _. BodyRefusal given.now.declared.now given.now.heads.now ms (query_body (map goal_form body.now)) None) (RefusesBody given.now.declared.now given.now.heads.now ms (query_body (map goal_form body.now)) line) }
+{
+    if has_unknown(given.declared, given.heads, given.modules, body) {
+        return Err(LoadError::Unknown(line));
+    }
+    match mark_query(alloc, given.declared, body) {
+        Ok(marking) => Ok(marking),
+        Err(Stop::Clash) => Err(LoadError::SortClash(line)),
+        Err(Stop::Memory) => Err(LoadError::Memory),
+    }
+}
+
+/// A query with these sorts.
+fn sorted<'s>(
+    alloc: Global,
+    given: &Given<'_, 's>,
+    marking: Marking<'s>,
+    body: &[RawGoal<'s>],
+) -> Result<Query<'s>, AllocError>
+    requires body { list_all goal_written (map goal_form body.now) ≡ true }
+    requires marking { IsMarking given.now.declared.now (query_body (map goal_form body.now)) marking }
+    ensures { IfOk result (λ q. (ms : List (Option Text)) → AreNumbers ms given.now.modules.now → BodyRefusal given.now.declared.now given.now.heads.now ms (query_body (map goal_form body.now)) None → Asks given.now.declared.now given.now.heads.now given.now.names.now ms (map goal_form body.now) q) }
+{
+    let mut more = Signs::new(alloc);
+    add_goals(given.names, &mut more, body)?;
+    let numbers = Numbers {
+        variables: marking.variables(),
+        declared: given.declared,
+        names: given.names,
+        more: &more,
+        modules: given.modules,
+    };
+    let mut own = 0;
+    let goals = body_goals(alloc, &numbers, &marking, body, &mut own)?;
+    Ok(Query {
+        goals,
+        marking,
+        names: more,
+    })
+}
+
+/// A query over what is known of a file, or its refusal.
+pub(crate) fn asked<'s>(
+    alloc: Global,
+    given: &Given<'_, 's>,
+    line: u32,
+    body: &[RawGoal<'s>],
+) -> Result<Query<'s>, LoadError>
+    requires { list_all goal_written (map goal_form body.now) ≡ true }
+    ensures { (ms : List (Option Text)) → AreNumbers ms given.now.modules.now → MatchResult result (Asks given.now.declared.now given.now.heads.now given.now.names.now ms (map goal_form body.now)) (RefusesBody given.now.declared.now given.now.heads.now ms (query_body (map goal_form body.now)) line) }
+{
+    let marking = checked(alloc, given, line, body)?;
+    match sorted(alloc, given, marking, body) {
+        Ok(query) => Ok(query),
+        Err(_) => Err(LoadError::Memory),
+    }
+}
