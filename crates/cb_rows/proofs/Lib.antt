@@ -24,3 +24,4 @@ pub mod LimitRows
 pub mod FormRow
 pub mod OutsideRows
 pub mod SolutionRows
+pub mod StopRow

@@ -22,3 +22,4 @@ pub mod LimitExamples
 pub mod FormExamples
 pub mod OutsideExamples
 pub mod SolutionExamples
+pub mod StopRow

@@ -1,5 +1,5 @@
 -- Worked numbers of the two bounds on nodes.
-use Rattle.std.specs.Prelude.{◌≡◌, Bool, true, false, List, [], ◌∷◌, codes, None, sum_by}
+use Rattle.std.specs.Prelude.{◌≡◌, Bool, true, false, List, [], ◌∷◌, map, codes, None, sum_by}
 use Rattle.cb_model.specs.declared.Expr.TheVariants as expr
 use Rattle.cb_model.specs.declared.Tree.TheVariants as tree
 use Rattle.cb_model.specs.Text.{Text}
@@ -9,6 +9,7 @@ use Rattle.cb_model.specs.Derivation.{first_branch, resolved, with_circuit}
 use Rattle.cb_model.specs.Room.{BelowRoom, room_with, branch_size, expr_size}
 use Rattle.cb_model.specs.Output.{QuerySays, room_of}
 use Rattle.cb_rows.specs.RoomRow.{p, q, names, dropped, times, name_program, name_query, name_behind, bare, bare_program, bare_query, circuits, A, B}
+use Rattle.cb_rows.specs.StopRow as stop
 
 pub record RoomExamples : Type 0 where
   -- `~X = X`: the branch that is dropped has no printed leaves, and with more nodes than its bound it allows no stop
@@ -27,6 +28,11 @@ pub record RoomExamples : Type 0 where
   -- the second branch is added
   pub name_first_bound : room_with name_program (first_branch name_query) 0 ≡ 8192
   pub may_stop_adding : QuerySays name_program name_query names 10 (Only 12799) (codes "stopped: nodes" ∷ []) true
+  -- `p` over `p. p :- true, true.`: one node less than the bound of the second clause's branch, which is above all before it,
+  -- allows a stop behind the first answer, and none without its line
+  pub larger_bound : map (λ b. room_with stop.p b 0) (first_branch stop.q ∷ stop.answer ∷ stop.larger ∷ []) ≡ 2048 ∷ 4608 ∷ 12800 ∷ []
+  pub may_stop_behind : QuerySays stop.p stop.q stop.names 2 (Only 12799) (codes "yes" ∷ codes "stopped: nodes" ∷ []) true
+  pub not_without_line : QuerySays stop.p stop.q stop.names 2 (Only 12799) (codes "stopped: nodes" ∷ []) true → ⊥
   -- `circuit(m, [1], [])` over `module(m, [A], [], []).`: the item counts its name, its trees and its own variable
   pub circuit_size : branch_size bare_program (with_circuit (record (first_branch bare_query) { goals = [] }) bare (tree.Bus (expr.One ∷ []) None) (tree.Bus [] None)) ≡ 5
   -- `verify half_adder`, with its specification `[A # B, A * B]`

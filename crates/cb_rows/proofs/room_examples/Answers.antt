@@ -1,4 +1,7 @@
 use Rattle.cb_rows.proofs.RoomRow as rows
+use Rattle.std.proofs.Common.{refl}
+use Rattle.cb_laws.proofs.Shapes.{size_values}
+use Rattle.cb_rows.proofs.StopRow as stop
 use Rattle.cb_rows.proofs.OnlyNo.{only_no}
 use Rattle.cb_rows.proofs.room_examples.Goals as goal
 
@@ -13,6 +16,9 @@ returns c = record {
   name_bound = rows.name_bound;
   name_first_bound = rows.name_first_bound;
   may_stop_adding = rows.may_stop_adding;
+  larger_bound = simp size_values refl;
+  may_stop_behind = stop.may_stop_behind;
+  not_without_line = stop.not_without_line;
   circuit_size = rows.bare_size;
   verify_bound = rows.verify_bound;
 }
