@@ -97,5 +97,8 @@ rows_hold = record {
   check_other = record { refuses = λ e. absurd (cc); only = λ e. absurd (other_number e) };
   check_usage = λ u. let e = u.only refl in cc;
   unbuilt_line = refl;
+  bare_names = refl;
+  printed = refl;
+  run_outcomes = refl;
   signs = refl;
 }

@@ -1,9 +1,12 @@
 -- Worked examples of the outside of a run: words, outcomes, lines of places, counts of written texts, and what is told of the outside.
-use Rattle.std.specs.Prelude.{◌≡◌, ◌-◌, ◌^◌, false, List, [], ◌∷◌, ◌++◌, map, codes, Some, None, pos, Option}
+use Rattle.std.specs.Prelude.{◌≡◌, ◌-◌, ◌^◌, true, false, List, [], ◌∷◌, ◌++◌, map, codes, Some, None, pos, Option}
 use Rattle.cb_model.specs.declared.Outcome.TheVariants as outcome
 use Rattle.cb_model.specs.declared.Side.TheVariants as side
 use Rattle.cb_model.specs.Text.{Text}
-use Rattle.cb_model.specs.Tokens.{line_at}
+use Rattle.cb_model.specs.declared.Kind.TheVariants as kind
+use Rattle.cb_model.specs.Tokens.{line_at, name_of}
+use Rattle.cb_model.specs.Output.{printed_from, run_outcome}
+use Rattle.cb_rows.specs.TextExamples.{token_at}
 use Rattle.cb_model.specs.Grammar.{Last, More, one, Name, Variable, Integer, Not, ACall, AnEqual, FormClause, Directive, Rule, FormQuery}
 use Rattle.cb_model.specs.Written.{AreClauses, AreQueries, line_of_clause}
 use Rattle.cb_model.specs.Commands.{Check, Run, Verify, Same, Make, Max, Only, IsNumber, file_name}
@@ -100,5 +103,11 @@ pub record OutsideExamples : Type 0 where
   pub check_usage : HasUsage check_words (outcome.Refused 19) → ⊥
   -- what isn't built is refused with a line of its own
   pub unbuilt_line : refusal_line unbuilt ≡ codes "error: not built yet"
+  -- a quoted name without its quotes, and a plain one
+  pub bare_names : map name_of (token_at kind.Quoted (39 ∷ 97 ∷ 32 ∷ 98 ∷ 39 ∷ []) 0 5 1 ∷ token_at kind.Atom (codes "p") 5 6 1 ∷ []) ≡ (97 ∷ 32 ∷ 98 ∷ []) ∷ codes "p" ∷ []
+  -- a variable whose name begins with `_` is not printed, and keeps its number
+  pub printed : printed_from 0 (codes "_X" ∷ codes "Y" ∷ codes "X_" ∷ []) ≡ (1, codes "Y") ∷ (2, codes "X_") ∷ []
+  -- a stop line makes the whole run a stop
+  pub run_outcomes : map run_outcome (true ∷ false ∷ []) ≡ outcome.Stopped ∷ outcome.Done ∷ []
   -- a name with its number of arguments
   pub signs : map sign_of (Name (codes "f") (More (Variable (codes "X")) (one (atom (codes "a")))) ∷ atom (codes "a") ∷ Variable (codes "X") ∷ []) ≡ Some (codes "f", 2) ∷ Some (codes "a", 0) ∷ None ∷ []

@@ -7,9 +7,15 @@ use Rattle.cb_model.specs.Commands.{Only}
 use Rattle.cb_model.specs.Program.{no_program}
 use Rattle.cb_model.specs.Derivation.{first_branch, resolved, with_circuit}
 use Rattle.cb_model.specs.Room.{BelowRoom, room_with, branch_size, expr_size}
-use Rattle.cb_model.specs.Output.{QuerySays, room_of}
+use Rattle.cb_model.specs.Output.{QuerySays, used, room_of}
 use Rattle.cb_rows.specs.RoomRow.{p, q, names, dropped, times, name_program, name_query, name_behind, bare, bare_program, bare_query, circuits, A, B}
 use Rattle.cb_rows.specs.StopRow as stop
+use Rattle.cb_rows.specs.CircuitExamples as parts
+use Rattle.cb_model.specs.Facts.{Circuits, no_circuits, with_module}
+
+-- a file with a half adder, a module that exchanges its inputs, and a full adder
+abbrev pub three_modules : Circuits
+three_modules = with_module (with_module (with_module no_circuits parts.half_adder) parts.swap) parts.full_adder
 
 pub record RoomExamples : Type 0 where
   -- `~X = X`: the branch that is dropped has no printed leaves, and with more nodes than its bound it allows no stop
@@ -37,3 +43,7 @@ pub record RoomExamples : Type 0 where
   pub circuit_size : branch_size bare_program (with_circuit (record (first_branch bare_query) { goals = [] }) bare (tree.Bus (expr.One ∷ []) None) (tree.Bus [] None)) ≡ 5
   -- `verify half_adder`, with its specification `[A # B, A * B]`
   pub verify_bound : room_of circuits (codes "half_adder" ∷ []) (sum_by expr_size (expr.Xor (A ∷ B ∷ []) ∷ expr.And (A ∷ B ∷ []) ∷ [])) ≡ 24576
+  -- a full adder uses a half adder, and not the module between them in the file; its five gates have 15 pins, the instances of
+  -- the two facts 17, its outputs are 2 and its inputs 3
+  pub used_parts : map (λ m. m.name) (used three_modules (codes "full_adder" ∷ [])) ≡ codes "full_adder" ∷ codes "half_adder" ∷ []
+  pub full_bound : room_of three_modules (codes "full_adder" ∷ []) 0 ≡ 159744

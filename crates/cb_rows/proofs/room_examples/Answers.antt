@@ -20,5 +20,7 @@ returns c = record {
   may_stop_behind = stop.may_stop_behind;
   not_without_line = stop.not_without_line;
   circuit_size = rows.bare_size;
+  used_parts = refl;
+  full_bound = refl;
   verify_bound = rows.verify_bound;
 }
