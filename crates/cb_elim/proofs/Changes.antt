@@ -1,5 +1,5 @@
 -- The changes that an equation makes, and the way back.
-use Rattle.std.proofs.Common.{◌≡◌, ◌≢◌, ◌⊎◌, inl, inr, ℕ, zero, suc, ◌+◌, ◌-◌, ◌<◌, ◌≤◌, Bool, true, false, List, [], ◌∷◌, ◌++◌, length, take, drop, get_or, nat_eq, if◌then◌else◌, refl, sym, ap, subst, ◌∙◌, arith, length-append, append_assoc}
+use Rattle.std.proofs.Common.{◌≡◌, inl, inr, ℕ, suc, ◌+◌, ◌<◌, ◌≤◌, true, false, List, [], ◌∷◌, ◌++◌, length, take, get_or, nat_eq, if◌then◌else◌, refl, sym, ap, ◌∙◌, arith, length-append, append_assoc}
 use Rattle.std.specs.Prelude.{slice_set}
 use Rattle.std.proofs.lemmas.Bool.{cases_Bool, eqb-true, eq-eqb, ne_eqb}
 use Rattle.std.proofs.lemmas.List.{take_more, length-take-le, append-nil}
@@ -42,6 +42,11 @@ changes-within k (n ∷ ns) (v ∷ vs) m h = elim (nat_eq n.0 v.0) as (λ b. Eac
   | true ↦ changes-within (suc k) ns vs m (omega arith)
   | false ↦ (omega arith, changes-within (suc k) ns vs m (omega arith))
 ]
+
+-- values that are the same make no change
+pub changes-same : (k : ℕ) (ns : List Node) → changes_from k ns ns ≡ []
+changes-same k [] = refl
+changes-same k (n ∷ ns) = ap (λ b. if b then changes_from (suc k) ns ns else record { slot = k; value = n } ∷ changes_from (suc k) ns ns) (eq-eqb n.0 n.0 refl) ∙ changes-same (suc k) ns
 
 pub each-append : (n : ℕ) (xs ys : List Change) → Each (λ c. c.slot < n) xs → Each (λ c. c.slot < n) ys → Each (λ c. c.slot < n) (xs ++ ys)
 each-append n [] ys h w = w

@@ -1,32 +1,30 @@
 -- From elimination on nodes to the range of a store.
-use Rattle.std.proofs.Common.{◌≡◌, ◌≢◌, ◌⊎◌, inl, inr, ◌↔◌, ℕ, zero, suc, ◌+◌, ◌<◌, ◌≤◌, Bool, true, false, not, List, [], ◌∷◌, ◌++◌, length, take, Option, Some, None, Result, Ok, Err, refl, sym, ap, ap₂, subst, ◌∙◌, arith, not-le_of_lt}
-use Rattle.std.proofs.lemmas.Bool.{cases_Bool, cases_eq, cases_lt, true≢false}
+use Rattle.std.proofs.Common.{◌≡◌, ◌≢◌, ◌⊎◌, inl, inr, ℕ, ◌<◌, ◌≤◌, Bool, true, false, List, [], ◌∷◌, ◌++◌, length, take, Some, None, Result, Ok, Err, refl, sym, ap, subst, ◌∙◌, arith, not-le_of_lt}
+use Rattle.std.proofs.lemmas.Bool.{true≢false}
 use Rattle.std.proofs.lemmas.List.{append-nil, take-append-le}
 use Rattle.std.proofs.Math.Seq.{take-length}
 use Rattle.std.proofs.Math.Path.{fun_ext}
 use Rattle.cb_model.specs.Bits.{Bits, Each, put, xor}
 use Rattle.cb_dd.specs.declared.Node.{Node}
 use Rattle.cb_dd.specs.declared.Stop.{Stop}
-use Rattle.cb_dd.specs.declared.Triple.{Triple}
-use Rattle.cb_dd.specs.Diagram.{Store, IsNode, function_of}
+use Rattle.cb_dd.specs.Diagram.{Store, function_of}
 use Rattle.cb_ops.specs.Ops.{Grows}
 use Rattle.cb_ops.specs.Support.{IsListed}
-use Rattle.cb_boole.specs.Elimination.{Function, DependsOnly, AreAlike, rest, solved}
-use Rattle.cb_boole.specs.View.{View, IsLive, IsGood, IsFit, InRange, point, unified}
-use Rattle.cb_boole.proofs.Point.{put_other, put_own}
+use Rattle.cb_boole.specs.Elimination.{Function, DependsOnly, rest, solved}
+use Rattle.cb_boole.specs.View.{View, IsLive, IsGood, IsFit, point, unified}
+use Rattle.cb_boole.proofs.Point.{put_other}
 use Rattle.cb_boole.proofs.Only.{IsHeld, weaker}
 use Rattle.cb_boole.proofs.Unify.{AreFree, cases_stands, left_from, left_into, not_solvable, good_after, is_instance, got_back}
 use Rattle.cb_boole.proofs.Grow.{fit_two}
 use Rattle.cb_solution.proofs.Solved.{listed-here, listed-there, listed-cases}
-use Rattle.cb_elim.specs.declared.Free.{Free}
 use Rattle.cb_elim.specs.declared.Change.{Change}
-use Rattle.cb_elim.specs.Store.{Seen, IsStore, IsArgument, IsAsBefore, OnlyNodes, AreThere, with_fulls, IsVariableOf, stands_in, value_in, view_of}
+use Rattle.cb_elim.specs.Store.{Seen, IsStore, IsArgument, IsAsBefore, OnlyNodes, AreThere, with_fulls, stands_in, value_in, view_of}
 use Rattle.cb_elim.specs.Equation.{IsElimination, IsGeneral, HasNoSolution, differ}
 use Rattle.cb_elim.specs.Unified.{IsSolved, HasNone, OnlyValues, IsMostGeneral, IsReproductive}
 use Rattle.cb_elim.specs.Moments.{KeepsMoments, changes_from, undone}
 use Rattle.cb_elim.proofs.Views.{with_values, store-fulls}
 use Rattle.cb_elim.proofs.Back.{keeps}
-use Rattle.cb_elim.proofs.Changes.{undone-from, changes-within, each-append}
+use Rattle.cb_elim.proofs.Changes.{undone-from, changes-within, changes-same, each-append}
 
 -- the two functions agree where their difference is 0
 xor-agree : (x y : Bool) → xor x y ≡ false → x ≡ y
@@ -155,6 +153,7 @@ module _ (now s : Seen) (is : s ≡ now) (st : IsStore now) (f g : ℕ) (a : IsA
         number = gen.number;
         changes = changes_from 0 s.slots vs;
         trail = trail;
+        listed = refl;
         slots = undone-from [] s.slots vs (sym gen.number);
         nodes = grows;
       })
@@ -221,6 +220,7 @@ same-values s = record {
   number = refl;
   changes = [];
   trail = sym (append-nil s.trail);
+  listed = sym (changes-same 0 s.slots);
   slots = refl;
   nodes = record { budget = refl; more = []; triples = sym (append-nil s.nodes.triples); fulls = omega arith };
 }

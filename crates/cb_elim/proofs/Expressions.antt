@@ -1,5 +1,5 @@
 -- The nodes of expressions.
-use Rattle.std.proofs.Common.{◌≡◌, ◌⊎◌, inl, inr, ℕ, zero, suc, ◌+◌, ◌*◌, ◌<◌, ◌≤◌, Bool, true, false, not, ◌&&◌, ◌||◌, List, [], ◌∷◌, ◌++◌, map, length, get_or, take, sum, Option, Some, None, if◌then◌else◌, refl, sym, ◌∙◌, ap, ap₂, subst, arith}
+use Rattle.std.proofs.Common.{◌≡◌, inl, ℕ, zero, suc, ◌+◌, ◌*◌, ◌<◌, ◌≤◌, Bool, true, false, not, ◌&&◌, ◌||◌, List, [], ◌∷◌, ◌++◌, map, length, get_or, take, sum, Option, Some, None, refl, sym, ◌∙◌, ap, ap₂, subst, arith}
 use Rattle.std.proofs.lemmas.List.{map_more}
 use Rattle.std.proofs.lemmas.List.Sums.{sum-map, sum_by_more_le}
 use Rattle.std.proofs.Math.Path.{fun_ext}
@@ -16,16 +16,16 @@ use Rattle.cb_dd.specs.declared.Triple.{Triple}
 use Rattle.cb_dd.specs.Diagram.{Store, IsNode, function_of}
 use Rattle.cb_dd.proofs.Diagrams.{function_of-zero, function_of-one}
 use Rattle.cb_ops.specs.Ops.{Grows, StandsFor}
-use Rattle.cb_ops.proofs.Ite.{grown-function, literal-is}
+use Rattle.cb_ops.proofs.Ite.{grown-function}
 use Rattle.cb_boole.specs.Elimination.{Function}
-use Rattle.cb_boole.specs.View.{View, IsGood, IsFit, back, point}
+use Rattle.cb_boole.specs.View.{View, IsGood, IsFit, back}
 use Rattle.cb_boole.proofs.Unify.{point_other, constant_other}
 use Rattle.cb_elim.specs.declared.Slot.{Slot}
 use Rattle.cb_elim.specs.declared.expression.Operator.{Operator}
 use Rattle.cb_elim.specs.declared.expression.Operator.TheVariants as operator
 use Rattle.cb_elim.specs.Store.{Seen, IsStore, IsArgument, AreThere, value_in, view_of}
 use Rattle.cb_elim.specs.Expression.{chain_value, operator_value, variable_bits}
-use Rattle.cb_elim.proofs.Views.{value-still, view-still, store-grown, store-inside}
+use Rattle.cb_elim.proofs.Views.{value-still, view-still, store-inside}
 
 -- the functions of the constants
 pub ruleset constants = (function_of-zero, function_of-one)
@@ -138,6 +138,20 @@ operands-next s t u v st tu ns there vars o xs i x node next r lt at is before m
     (grown-function t u tu node is a ∙ before a)
     (made a ∙ ap (λ b. expr_value a b x) (bits-still s t st ns there vars a) ∙ ap F at)
     ∙ sym (ap (chain_value o) (map_more F xs i x lt) ∙ chain-last o (map F (take i xs)) (F (get_or xs i x)))
+
+-- the first operand
+chain-one : (o : Operator) (y : Bool) → chain_value o (y ∷ []) ≡ y
+chain-one operator.And y = and-last [] y
+chain-one operator.Or y = or-last [] y
+chain-one operator.Xor y = xor-last [] y
+
+pub operands-first : (s t u : Store) (st : Grows s t) (ns : List Node) (there : AreThere s.triples ns) (vars : List (Option Slot)) (o : Operator) (xs : List Expr) (i : ℕ) (x : Expr) (next : ℕ) →
+    i < length xs → x ≡ get_or xs i x → i ≡ 0 → ((a : Bits) → function_of u.triples next a ≡ expr_value a (variable_bits t.triples ns vars a) x) →
+    (a : Bits) → function_of u.triples next a ≡ chain_value o (map (expr_value a (variable_bits s.triples ns vars a)) (take (i + 1) xs))
+operands-first s t u st ns there vars o xs i x next lt at none made a =
+    let F : Expr → Bool = expr_value a (variable_bits s.triples ns vars a) in
+    made a ∙ ap (λ b. expr_value a b x) (bits-still s t st ns there vars a) ∙ ap F at
+    ∙ sym (ap (chain_value o) (map_more F xs i x lt ∙ ap (λ j. map F (take j xs) ++ F (get_or xs i x) ∷ []) none) ∙ chain-one o (F (get_or xs i x)))
 
 -- ---- variables
 

@@ -1,6 +1,6 @@
 -- Levels from the greatest to the least.
-use Rattle.std.proofs.Common.{◌≡◌, ◌≢◌, ◌⊎◌, inl, inr, ℕ, zero, suc, ◌+◌, ◌<◌, ◌≤◌, Bool, true, false, cond, ◌||◌, List, [], ◌∷◌, ◌++◌, length, reverse, nat_eq, get_or, refl, sym, ap, subst, ◌∙◌, arith, add-one}
-use Rattle.std.proofs.lemmas.Bool.{cases_Bool, cases_eq, cases_lt, eq-eqb, true≢false}
+use Rattle.std.proofs.Common.{◌≡◌, ◌⊎◌, inl, inr, ℕ, suc, ◌+◌, ◌<◌, ◌||◌, List, [], ◌∷◌, ◌++◌, reverse, nat_eq, get_or, sym, ap, subst, ◌∙◌, arith}
+use Rattle.std.proofs.lemmas.Bool.{cases_Bool, true≢false}
 use Rattle.std.proofs.lemmas.List.Folds.{list_any-append}
 use Rattle.std.proofs.lemmas.Grind.{reverse_onto}
 use Rattle.std.specs.List.{list_any}
@@ -42,7 +42,7 @@ listed-reverse (x ∷ xs) k h = subst (λ (ys : List ℕ). IsListed ys k) (sym (
   | inr there ↦ listed-left (reverse xs) (x ∷ []) k (listed-reverse xs k there)
 ])
 
-rising-tail : (x : ℕ) (xs : List ℕ) → IsStrictlyIncreasing (x ∷ xs) → IsStrictlyIncreasing xs
+pub rising-tail : (x : ℕ) (xs : List ℕ) → IsStrictlyIncreasing (x ∷ xs) → IsStrictlyIncreasing xs
 rising-tail x xs rise k h =
     let r : get_or (x ∷ xs) (suc k) 0 < get_or (x ∷ xs) (suc k + 1) 0 = rise (suc k) (omega arith) in
     let e : suc k + 1 ≡ suc (k + 1) = omega arith in

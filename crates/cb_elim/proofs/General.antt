@@ -1,11 +1,11 @@
 -- The most general solution, from the images of the levels and the values with these put in.
-use Rattle.std.proofs.Common.{◌≡◌, ℕ, ◌<◌, Bool, true, false, List, refl, sym, ap, subst, ◌∙◌}
+use Rattle.std.proofs.Common.{◌≡◌, ℕ, List, sym, ap, subst, ◌∙◌}
 use Rattle.std.proofs.Math.Path.{fun_ext}
-use Rattle.cb_model.specs.Bits.{Bits, xor}
+use Rattle.cb_model.specs.Bits.{xor}
 use Rattle.cb_dd.specs.declared.Node.{Node}
 use Rattle.cb_dd.specs.Diagram.{Store, function_of}
 use Rattle.cb_ops.specs.Ops.{Grows, StandsFor}
-use Rattle.cb_ops.specs.Substitute.{Images, substituted}
+use Rattle.cb_ops.specs.Substitute.{Images}
 use Rattle.cb_ops.proofs.Ite.{Grows-then}
 use Rattle.cb_boole.specs.Elimination.{Function, rest, solved}
 use Rattle.cb_solution.specs.Solution.{IsSolution, HasRest}

@@ -1,5 +1,5 @@
 -- Which nodes are known, and which are constant.
-use Rattle.std.proofs.Common.{◌≡◌, ◌≢◌, ◌⊎◌, inl, inr, ◌↔◌, ℕ, zero, suc, ◌+◌, ◌<◌, ◌≤◌, Bool, true, false, List, [], ◌∷◌, length, get_or, nat_eq, Option, Some, None, refl, sym, ap, subst, ◌∙◌, arith, not-le_of_lt}
+use Rattle.std.proofs.Common.{◌≡◌, inl, inr, ◌↔◌, ℕ, ◌<◌, ◌≤◌, Bool, true, false, List, length, get_or, nat_eq, Some, None, sym, ap, subst, ◌∙◌, arith, not-le_of_lt}
 use Rattle.std.specs.Prelude.{Contains}
 use Rattle.std.proofs.lemmas.Bool.{cases_lt, eqb-true}
 use Rattle.std.proofs.lemmas.Option.{same_Some, slice_get-get_or}
@@ -9,7 +9,6 @@ use Rattle.cb_dd.specs.declared.Triple.{Triple}
 use Rattle.cb_dd.specs.Diagram.{IsNode, IsCanonical, function_of}
 use Rattle.cb_dd.proofs.Diagrams.{function_of-zero, function_of-one}
 use Rattle.cb_ops.specs.Ops.{DependsOn, IsFree}
-use Rattle.cb_ops.specs.Support.{IsListed}
 use Rattle.cb_boole.specs.Elimination.{DependsOnly}
 use Rattle.cb_boole.proofs.Point.{put_other}
 use Rattle.cb_solution.proofs.Solved.{only-from}

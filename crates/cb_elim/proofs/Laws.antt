@@ -1,14 +1,10 @@
 -- The range of a store and lists of equations.
-use Rattle.std.proofs.Common.{◌≡◌, ◌↔◌, ℕ, List, [], ◌∷◌, ◌++◌, map, refl, sym, ◌∙◌, pos}
-use Rattle.cb_model.specs.Bits.{Bits, Each}
+use Rattle.std.proofs.Common.{◌≡◌, List, [], ◌∷◌, ◌++◌, sym, ◌∙◌}
+use Rattle.cb_model.specs.Bits.{Each}
 use Rattle.cb_model.specs.Values.{expr_value}
-use Rattle.cb_model.specs.Equations.{Sat}
-use Rattle.cb_laws.specs.Laws.{Equal, pair_item}
+use Rattle.cb_laws.specs.Laws.{Equal}
 use Rattle.cb_laws.proofs.Tables.{sat_bits, bits_sat, with_bits, zero_fits}
-use Rattle.cb_dd.specs.Diagram.{function_of}
-use Rattle.cb_boole.specs.View.{InRange, point}
-use Rattle.cb_elim.specs.Store.{Seen, view_of}
-use Rattle.cb_elim.specs.Laws.{IsRangeOf, IsNodeOf, RangeGrows, SolvedIsSolvable, NoneIsRefuted}
+use Rattle.cb_elim.specs.Laws.{RangeGrows, SolvedIsSolvable, NoneIsRefuted}
 
 each-more : (P : Equal → Type 0) (es : List Equal) (e : Equal) → Each P es → P e → Each P (es ++ e ∷ [])
 each-more P [] e h w = (w, tt)

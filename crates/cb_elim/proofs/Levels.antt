@@ -1,16 +1,14 @@
 -- The levels that an equation eliminates.
-use Rattle.std.proofs.Common.{◌≡◌, ◌≢◌, ◌⊎◌, inl, inr, ℕ, ◌+◌, ◌<◌, ◌≤◌, Bool, true, false, cond, ◌||◌, List, [], ◌∷◌, ◌++◌, length, reverse, nat_eq, refl, sym, ap, subst, ◌∙◌, arith, not-le_of_lt}
+use Rattle.std.proofs.Common.{◌≡◌, ◌⊎◌, inl, inr, ℕ, ◌<◌, ◌≤◌, Bool, true, false, cond, List, [], ◌∷◌, reverse, nat_eq, refl, sym, ap, subst, ◌∙◌}
 use Rattle.std.specs.Prelude.{nat_le, Contains}
-use Rattle.std.proofs.lemmas.Bool.{cases_Bool, cases_eq, cases_lt, eqb-true, leb-true, le-leb, true≢false}
+use Rattle.std.proofs.lemmas.Bool.{cases_lt, eqb-true, leb-true, le-leb, true≢false}
 use Rattle.std.proofs.lemmas.Map.Views.{Contains-from_any}
-use Rattle.std.specs.List.{list_any, filter}
+use Rattle.std.specs.List.{filter}
 use Rattle.std.specs.List.Sorted.{IsStrictlyIncreasing}
-use Rattle.cb_model.specs.Bits.{Bits, put}
 use Rattle.cb_dd.specs.declared.Triple.{Triple}
 use Rattle.cb_dd.specs.Diagram.{function_of}
 use Rattle.cb_ops.specs.Ops.{DependsOn, IsFree}
 use Rattle.cb_ops.specs.Support.{IsListed}
-use Rattle.cb_boole.specs.Elimination.{DependsOnly}
 use Rattle.cb_solution.specs.Solution.{IsFalling}
 use Rattle.cb_solution.proofs.Solved.{listed-here, listed-there, listed-cases, only-from}
 use Rattle.cb_elim.specs.Equation.{IsElimination}

@@ -12,3 +12,5 @@ pub mod Known
 pub mod Rooms
 pub mod Expressions
 pub mod Laws
+pub mod Stays
+pub mod Sizes

@@ -1,16 +1,14 @@
 -- The slots' values, one after another, with the images put in.
-use Rattle.std.proofs.Common.{◌≡◌, ◌≢◌, ◌⊎◌, inl, inr, ℕ, zero, suc, ◌+◌, ◌<◌, ◌≤◌, Bool, true, false, List, [], ◌∷◌, ◌++◌, length, take, get_or, refl, sym, ap, subst, ◌∙◌, arith, length-append}
-use Rattle.std.specs.Prelude.{slice_index_or}
+use Rattle.std.proofs.Common.{◌≡◌, ◌⊎◌, inl, inr, ℕ, zero, suc, ◌+◌, ◌<◌, Bool, List, [], ◌∷◌, ◌++◌, length, take, get_or, refl, sym, ap, subst, ◌∙◌, arith, length-append}
 use Rattle.std.proofs.lemmas.Bool.{cases_eq}
-use Rattle.std.proofs.lemmas.List.{take_more, length-take-le}
-use Rattle.std.proofs.Math.Path.{fun_ext}
-use Rattle.cb_model.specs.Bits.{Bits, Each}
+use Rattle.std.proofs.lemmas.List.{take_more}
+use Rattle.cb_model.specs.Bits.{Bits}
 use Rattle.cb_dd.specs.declared.Node.{Node}
 use Rattle.cb_dd.specs.declared.Triple.{Triple}
 use Rattle.cb_dd.specs.Diagram.{Store, IsNode, function_of}
 use Rattle.cb_ops.specs.Ops.{Grows, StandsFor}
 use Rattle.cb_ops.specs.Substitute.{Images, AreNodes, substituted}
-use Rattle.cb_ops.proofs.Ite.{grown-function, grown-node}
+use Rattle.cb_ops.proofs.Ite.{grown-function}
 use Rattle.cb_ops.proofs.Substitute.{substituted-grown}
 use Rattle.cb_elim.specs.Store.{AreThere, value_in}
 use Rattle.cb_elim.specs.Equation.{AreMoved}

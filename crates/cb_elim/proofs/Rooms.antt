@@ -1,11 +1,10 @@
 -- How many nodes an equation adds.
-use Rattle.std.proofs.Common.{◌≡◌, ◌≢◌, ◌⊎◌, inl, inr, ℕ, zero, suc, ◌+◌, ◌-◌, ◌*◌, min, ◌<◌, ◌≤◌, ◌^◌, Bool, true, false, List, [], ◌∷◌, ◌++◌, length, take, get_or, nat_eq, if◌then◌else◌, ◌||◌, Result, Ok, Err, refl, sym, ap, ap₂, subst, ◌∙◌, arith, length-append}
-use Rattle.std.proofs.lemmas.Bool.{cases_Bool, cases_eq, eqb-true, eqb-false, ne_eqb, true≢false}
+use Rattle.std.proofs.Common.{◌≡◌, inl, inr, ℕ, zero, suc, ◌+◌, ◌-◌, ◌*◌, min, ◌<◌, ◌≤◌, ◌^◌, Bool, List, [], ◌∷◌, length, get_or, nat_eq, if◌then◌else◌, Result, Err, refl, sym, ap₂, subst, ◌∙◌, arith}
+use Rattle.std.proofs.lemmas.Bool.{cases_Bool, eqb-true, true≢false}
 use Rattle.std.proofs.lemmas.Nat.{pow_pos}
-use Rattle.std.proofs.lemmas.List.{take_more, length-take-le}
 use Rattle.std.proofs.Math.Nat.{mul-le-mul_left, mul-le-mul_right}
 use Rattle.std.specs.List.{list_any}
-use Rattle.cb_model.specs.Bits.{Bits, Each, put, xor}
+use Rattle.cb_model.specs.Bits.{put, xor}
 use Rattle.cb_dd.specs.declared.Node.{Node}
 use Rattle.cb_dd.specs.declared.Triple.{Triple}
 use Rattle.cb_dd.specs.declared.Stop.{Stop}
@@ -13,15 +12,13 @@ use Rattle.cb_dd.specs.declared.Stop.TheVariants.{Nodes, Memory}
 use Rattle.cb_dd.specs.Diagram.{Store, IsNode, function_of}
 use Rattle.cb_ops.specs.Ops.{Grows, StandsFor, Room, DependsOn}
 use Rattle.cb_ops.specs.Support.{IsListed}
-use Rattle.cb_ops.specs.Substitute.{Images, AreNodes, SubstituteRoom, image_of, substituted}
-use Rattle.cb_ops.proofs.Ite.{without, without-lt, grown-depends, grown-node, Grows-then}
+use Rattle.cb_ops.specs.Substitute.{Images, AreNodes, SubstituteRoom}
+use Rattle.cb_ops.proofs.Ite.{without, without-lt, grown-depends, Grows-then}
 use Rattle.cb_ops.proofs.Substitute.{image-node}
-use Rattle.cb_boole.specs.Elimination.{Function, solved, DependsOnly}
 use Rattle.cb_boole.proofs.Point.{put_other}
-use Rattle.cb_boole.proofs.Only.{solved_alike}
 use Rattle.cb_boole.proofs.Bounds.{four_next}
 use Rattle.cb_solution.specs.Solution.{IsFalling, IsSolution, ImagesWithin, SolutionRoom, has_refused}
-use Rattle.cb_solution.proofs.Solved.{listed-here, listed-there, listed-cases, only-from, only-into, solution-within}
+use Rattle.cb_solution.proofs.Solved.{listed-here, listed-there, listed-cases, only-from, solution-within}
 use Rattle.cb_elim.specs.Store.{Seen, OnlyNodes, AreThere}
 use Rattle.cb_elim.specs.Unified.{UnifyCause}
 use Rattle.cb_elim.specs.Equation.{DependEach, GeneralRoom, IsElimination, MovedRoom}
@@ -71,7 +68,7 @@ node-of ts [] d k h w = absurd (omega arith)
 node-of ts (n ∷ ns) d zero h w = h.0
 node-of ts (n ∷ ns) d (suc k) h w = node-of ts ns d k h.1 (omega arith)
 
-depend-still : (s t : Store) → Grows s t → (ns : List Node) → AreThere s.triples ns → (ls : List ℕ) → DependEach s.triples ns ls → DependEach t.triples ns ls
+pub depend-still : (s t : Store) → Grows s t → (ns : List Node) → AreThere s.triples ns → (ls : List ℕ) → DependEach s.triples ns ls → DependEach t.triples ns ls
 depend-still s t g [] w ls h = tt
 depend-still s t g (n ∷ ns) w ls h = (grown-depends s t g n.0 ls w.0 h.0, depend-still s t g ns w.1 ls h.1)
 

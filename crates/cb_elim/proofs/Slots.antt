@@ -1,10 +1,10 @@
 -- One slot more, and one variable more.
-use Rattle.std.proofs.Common.{◌≡◌, ◌≢◌, ◌⊎◌, inl, inr, ℕ, zero, suc, ◌+◌, ◌<◌, ◌≤◌, Bool, true, false, cond, List, [], ◌∷◌, ◌++◌, length, take, nat_eq, Option, Some, None, if◌then◌else◌, refl, sym, ap, subst, ◌∙◌, ◌↔◌, arith, length-append, eq-eqb}
-use Rattle.std.proofs.lemmas.Bool.{cases_eq, cases_Bool, ne_eqb, eqb-true, eqb-false}
+use Rattle.std.proofs.Common.{◌≡◌, ◌≢◌, ◌⊎◌, inl, inr, ℕ, zero, suc, ◌+◌, ◌<◌, ◌≤◌, List, [], ◌∷◌, ◌++◌, length, take, nat_eq, Option, Some, None, if◌then◌else◌, refl, sym, ap, subst, ◌∙◌, arith, length-append, eq-eqb}
+use Rattle.std.proofs.lemmas.Bool.{cases_eq, cases_Bool, ne_eqb}
 use Rattle.std.proofs.lemmas.List.{append-nil, take-append-le}
 use Rattle.std.proofs.Math.Seq.{take-length}
 use Rattle.std.proofs.Math.Path.{fun_ext}
-use Rattle.cb_model.specs.Bits.{Bits, Each}
+use Rattle.cb_model.specs.Bits.{Each}
 use Rattle.cb_dd.specs.declared.Node.{Node}
 use Rattle.cb_dd.specs.declared.Triple.{Triple}
 use Rattle.cb_dd.specs.Diagram.{Store, IsNode, function_of}
@@ -17,7 +17,7 @@ use Rattle.cb_elim.specs.declared.Change.{Change}
 use Rattle.cb_elim.specs.Store.{Seen, IsStore, IsArgument, AreThere, IsVariableOf, IsNewVariable, HasSameRange, stands_in, value_in, view_of}
 use Rattle.cb_elim.specs.Moments.{KeepsMoments}
 use Rattle.cb_elim.proofs.Views.{with_values, store-still, store-fulls, view-still, argument-still}
-use Rattle.cb_elim.proofs.Back.{Later, keeps}
+use Rattle.cb_elim.proofs.Back.{keeps}
 
 -- ---- values, one more at the end
 

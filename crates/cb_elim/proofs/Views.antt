@@ -1,7 +1,7 @@
 -- A store stays one when nodes are added.
-use Rattle.std.proofs.Common.{◌≡◌, ◌⊎◌, ℕ, zero, suc, ◌<◌, ◌≤◌, Bool, List, [], ◌∷◌, ◌++◌, length, get_or, Option, Some, None, refl, sym, ap, subst, ◌∙◌, arith}
+use Rattle.std.proofs.Common.{◌≡◌, ℕ, zero, suc, ◌<◌, Bool, List, [], ◌∷◌, length, get_or, Some, None, refl, sym, ap, subst, arith}
 use Rattle.std.proofs.Math.Path.{fun_ext}
-use Rattle.cb_model.specs.Bits.{Bits, Each}
+use Rattle.cb_model.specs.Bits.{Bits}
 use Rattle.cb_dd.specs.declared.Node.{Node}
 use Rattle.cb_dd.specs.declared.Triple.{Triple}
 use Rattle.cb_dd.specs.Diagram.{Store, IsNode, function_of}
@@ -10,8 +10,7 @@ use Rattle.cb_ops.proofs.Ite.{grown-function, grown-node}
 use Rattle.cb_boole.specs.Elimination.{Function}
 use Rattle.cb_boole.specs.View.{View, IsGood, IsFit}
 use Rattle.cb_boole.proofs.Grow.{fit_constant, fit_two}
-use Rattle.cb_elim.specs.declared.Free.{Free}
-use Rattle.cb_elim.specs.Store.{Seen, IsStore, IsArgument, IsAsBefore, OnlyNodes, AreThere, IsVariableOf, stands_in, value_in, view_of, with_fulls, empty}
+use Rattle.cb_elim.specs.Store.{Seen, IsStore, IsArgument, OnlyNodes, AreThere, IsVariableOf, stands_in, value_in, view_of, with_fulls, empty}
 
 -- the view with these values
 abbrev pub with_values : Seen → (ℕ → Function) → View

@@ -1,13 +1,20 @@
 -- The value of an expression over the slots of its variables.
-use Rattle.std.specs.Prelude.{ℕ, Bool, false, ◌&&◌, ◌||◌, List, Option, None, slice_index_or}
+use Rattle.std.specs.Prelude.{◌≡◌, ℕ, ◌+◌, ◌-◌, ◌*◌, ◌^◌, ◌<◌, ◌≤◌, Bool, true, false, ◌&&◌, ◌||◌, List, Option, None, length, map, sum, slice_index_or}
 use Rattle.std.specs.Option.{option_map_or}
+use Rattle.cb_model.specs.declared.Expr.{Expr}
 use Rattle.cb_model.specs.Bits.{Bits, xor, all_of, some_of, odd_of}
+use Rattle.cb_model.specs.Values.{in_scope}
+use Rattle.cb_model.specs.Room.{expr_size}
+use Rattle.cb_model.specs.Outside.{Rose}
+use Rattle.cb_dd.specs.Diagram.{Store}
+use Rattle.cb_ops.specs.Support.{IsListed}
 use Rattle.cb_dd.specs.declared.Triple.{Triple}
 use Rattle.cb_dd.specs.declared.Node.{Node}
 use Rattle.cb_elim.specs.declared.Slot.{Slot}
 use Rattle.cb_elim.specs.declared.expression.Operator.{Operator}
 use Rattle.cb_elim.specs.declared.expression.Operator.TheVariants as operator
-use Rattle.cb_elim.specs.Store.{value_in}
+use Rattle.cb_elim.specs.Store.{Seen, value_in}
+use Rattle.cb_elim.specs.Equation.{DependEach}
 
 -- the bits of the variables: those of their slots, and 0 for a variable that has none
 abbrev pub variable_bits : List Triple → List Node → List (Option Slot) → Bits → Bits
@@ -24,3 +31,22 @@ abbrev pub chain_value : Operator → List Bool → Bool
 chain_value operator.And xs = all_of xs
 chain_value operator.Or xs = some_of xs
 chain_value operator.Xor xs = odd_of xs
+
+-- the list has the levels of the constants, c of them, and those on which the slots' values depend
+pub record AreLevels (ts : List Triple) (c : ℕ) (ns : List Node) (ls : List ℕ) : Type 0 where
+  pub constants : (k : ℕ) → k < c → IsListed ls k
+  pub slots : DependEach ts ns ls
+
+-- nodes that an expression in so many variables adds at most: two for each operator and leaf and each row of the levels
+pub record ExprRoom (ns : List Node) (vars : ℕ) (e : Expr) (old new : Store) : Type 0 where
+  pub most : (c : ℕ) (ls : List ℕ) → in_scope c vars e ≡ true → AreLevels old.triples c ns ls → length new.triples ≤ length old.triples + 2 * expr_size e * 2 ^ length ls
+
+-- the same of a connective of expressions
+pub record ChainRoom (ns : List Node) (vars : ℕ) (es : List Expr) (old new : Store) : Type 0 where
+  pub most : (c : ℕ) (ls : List ℕ) → all_of (map (in_scope c vars) es) ≡ true → AreLevels old.triples c ns ls → length new.triples ≤ length old.triples + 2 * (sum (map expr_size es) + (length es - 1)) * 2 ^ length ls
+
+-- A stop for nodes has its cause: the count of refusals rose, and the budget is below the nodes at the call and those
+-- that the expression may add, four for each operator and leaf and each row of the levels, for each list that has them.
+pub record ExprCause (old new : Seen) (e : Expr) : Type 0 where
+  pub rose : Rose old.nodes.fulls new.nodes.fulls
+  pub below : (ls : List ℕ) → AreLevels old.nodes.triples old.constants old.slots ls → old.nodes.budget < length old.nodes.triples + 4 * expr_size e * 2 ^ length ls

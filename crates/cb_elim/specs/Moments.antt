@@ -1,9 +1,8 @@
 -- Moments of a store, and the way back to them.
-use Rattle.std.specs.Prelude.{◌≡◌, ◌≢◌, ℕ, ◌<◌, ◌≤◌, List, [], ◌∷◌, ◌++◌, length, take, drop, map, slice_set, slice_get, Option, Contains, suc, nat_eq, if◌then◌else◌}
+use Rattle.std.specs.Prelude.{◌≡◌, ℕ, ◌≤◌, List, [], ◌∷◌, length, take, drop, map, slice_set, slice_get, Option, suc, nat_eq, if◌then◌else◌}
 use Rattle.cb_dd.specs.declared.Node.{Node}
-use Rattle.cb_dd.specs.Diagram.{function_of}
 use Rattle.cb_elim.specs.declared.Change.{Change}
-use Rattle.cb_elim.specs.Store.{Seen, IsStore, with_fulls, value_in}
+use Rattle.cb_elim.specs.Store.{Seen, IsStore, with_fulls}
 
 -- how many of each there were
 pub record Moment : Type 0 where

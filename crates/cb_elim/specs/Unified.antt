@@ -1,16 +1,14 @@
 -- What an equation makes of a store.
-use Rattle.std.specs.Prelude.{◌≡◌, ◌≢◌, ◌↔◌, ℕ, ◌+◌, ◌*◌, ◌^◌, ◌<◌, Bool, List, ◌++◌, length, slice_get, Some}
-use Rattle.cb_model.specs.Bits.{Bits, Each}
+use Rattle.std.specs.Prelude.{◌≡◌, ◌↔◌, ℕ, ◌+◌, ◌*◌, ◌^◌, ◌<◌, List, ◌++◌, length}
+use Rattle.cb_model.specs.Bits.{Bits}
 use Rattle.cb_model.specs.Equations.{Table}
-use Rattle.cb_dd.specs.declared.Node.{Node}
-use Rattle.cb_dd.specs.Diagram.{function_of}
 use Rattle.cb_model.specs.Outside.{Rose}
 use Rattle.cb_ops.specs.Ops.{Grows, DependsOn}
 use Rattle.cb_boole.specs.Elimination.{Function}
 use Rattle.cb_boole.specs.View.{View, InRange, point}
 use Rattle.cb_elim.specs.declared.Change.{Change}
 use Rattle.cb_elim.specs.Store.{Seen}
-use Rattle.cb_elim.specs.Moments.{undone}
+use Rattle.cb_elim.specs.Moments.{changes_from, undone}
 use Rattle.cb_elim.specs.Equation.{DependEach}
 
 -- The new range is what is left of the old one where the two functions agree, each free level having the bit of its
@@ -24,7 +22,8 @@ pub record HasNone (S : View) (f g : Function) : Type 0 where
   pub at : Bits
   pub none : (b : Bits) → InRange S at b → f (point S.stands at b) ≡ g (point S.stands at b) → ⊥
 
--- values of slots were rewritten, nodes were added, and nothing else
+-- Values of slots were rewritten, nodes were added, and nothing else. The trail gains exactly the slots whose value is
+-- another node now, in order of their numbers, each once and with the value that it had.
 pub record OnlyValues (old new : Seen) : Type 0 where
   pub constants : new.constants ≡ old.constants
   pub drawn : new.drawn ≡ old.drawn
@@ -32,6 +31,7 @@ pub record OnlyValues (old new : Seen) : Type 0 where
   pub number : length new.slots ≡ length old.slots
   pub changes : List Change
   pub trail : new.trail ≡ old.trail ++ changes
+  pub listed : changes ≡ changes_from 0 old.slots new.slots
   pub slots : undone changes new.slots ≡ old.slots
   pub nodes : Grows old.nodes new.nodes
 
@@ -41,6 +41,11 @@ pub record UnifyCause (old new : Seen) (f g : ℕ) : Type 0 where
   pub rose : Rose old.nodes.fulls new.nodes.fulls
   pub below : (ls : List ℕ) → DependsOn old.nodes.triples f ls → DependsOn old.nodes.triples g ls → DependEach old.nodes.triples old.slots ls →
       old.nodes.budget < length old.nodes.triples + 64 * (length old.slots + length ls + 1) * 4 ^ (length ls + 1)
+
+-- the same of a call that adds so many nodes at most
+pub record HasCause (old new : Seen) (most : ℕ) : Type 0 where
+  pub rose : Rose old.nodes.fulls new.nodes.fulls
+  pub below : old.nodes.budget < length old.nodes.triples + most
 
 -- giving each free level the bit of its variable gives each pair of the range back: Boole's solution in its reproductive form
 abbrev pub IsReproductive : View → Type 0

@@ -1,13 +1,14 @@
 //! The node of an expression over the slots of its variables.
 
-ghost use Rattle.std.specs.Prelude.{◌≡◌, ◌<◌, Bool, true, List, [], IfOk, map, length, Err};
+ghost use Rattle.std.specs.Prelude.{◌≡◌, ◌+◌, ◌-◌, ◌<◌, ◌≤◌, Bool, true, List, [], ◌∷◌, IfOk, OnErr, map, sum, length, Err};
 ghost use Rattle.cb_model.specs.Bits.{Bits};
 ghost use Rattle.cb_model.specs.Values.{expr_value};
 ghost use Rattle.cb_dd.specs.declared.Triple.{Triple};
-ghost use Rattle.cb_dd.specs.Diagram.{IsNode, function_of};
-ghost use Rattle.cb_ops.specs.Ops.{Grows, StandsFor};
+ghost use Rattle.cb_model.specs.Room.{expr_size};
+ghost use Rattle.cb_dd.specs.Diagram.{IsNode, function_of, fulls_after};
+ghost use Rattle.cb_ops.specs.Ops.{Grows, StandsFor, Room};
 ghost use Rattle.cb_elim.specs.Store.{AreThere};
-ghost use Rattle.cb_elim.specs.Expression.{chain_value, operator_value, variable_bits};
+ghost use Rattle.cb_elim.specs.Expression.{ChainRoom, ExprRoom, chain_value, operator_value, variable_bits};
 
 use crate::Slot;
 use cb_dd::{Node, Stop};
@@ -29,7 +30,9 @@ fn apply(ops: &mut Ops, operator: Operator, f: Node, g: Node) -> Result<Node, St
     ensures is_node { IfOk result (λ n. IsNode ops.new.triples n.0) }
     ensures function { IfOk result (λ n. (a : Bits) → function_of ops.new.triples n.0 a ≡ operator_value operator (function_of ops.old.triples f.0 a) (function_of ops.old.triples g.0 a)) }
     ensures grows { Grows ops.old ops.new }
+    ensures room { Room (f.0 ∷ g.0 ∷ []) 2 ops.old ops.new }
     ensures full { result ≡ Err Stop.Nodes → length ops.new.triples ≡ ops.new.budget }
+    ensures fulls { ops.new.fulls ≡ fulls_after ops.old.fulls result }
 {
     match operator {
         Operator::And => ops.and(f, g),
@@ -75,7 +78,9 @@ fn literal(ops: &mut Ops, level: u32) -> Result<Node, Stop>
     ensures is_node { IfOk result (λ n. IsNode ops.new.triples n.0) }
     ensures function { IfOk result (λ n. StandsFor ops.new.triples n.0 (λ a. a level)) }
     ensures grows { Grows ops.old ops.new }
+    ensures one { length ops.new.triples ≤ length ops.old.triples + 1 }
     ensures full { result ≡ Err Stop.Nodes → length ops.new.triples ≡ ops.new.budget }
+    ensures fulls { ops.new.fulls ≡ fulls_after ops.old.fulls result }
 {
     let n = ops.node(level, Node::ZERO, Node::ONE)?;
     Ok(n)
@@ -94,7 +99,10 @@ pub(crate) fn expression(
     ensures is_node { IfOk result (λ n. IsNode ops.new.triples n.0) }
     ensures function { IfOk result (λ n. (a : Bits) → function_of ops.new.triples n.0 a ≡ expr_value a (variable_bits ops.old.triples slots.now vars.now a) e.now) }
     ensures grows { Grows ops.old ops.new }
+    ensures room { ExprRoom slots.now (length vars.now) e.now ops.old ops.new }
+    ensures some { OnErr result (0 < expr_size e.now) }
     ensures full { result ≡ Err Stop.Nodes → length ops.new.triples ≡ ops.new.budget }
+    ensures fulls { ops.new.fulls ≡ fulls_after ops.old.fulls result }
 {
     match e {
         Expr::Zero => Ok(Node::ZERO),
@@ -127,12 +135,21 @@ fn operands(
     ensures is_node { IfOk result (λ n. IsNode ops.new.triples n.0) }
     ensures function { IfOk result (λ n. (a : Bits) → function_of ops.new.triples n.0 a ≡ chain_value operator (map (expr_value a (variable_bits ops.old.triples slots.now vars.now a)) xs.now)) }
     ensures grows { Grows ops.old ops.new }
+    ensures room { ChainRoom slots.now (length vars.now) xs.now ops.old ops.new }
+    ensures some { OnErr result (0 < sum (map expr_size xs.now) + (length xs.now - 1)) }
     ensures full { result ≡ Err Stop.Nodes → length ops.new.triples ≡ ops.new.budget }
+    ensures fulls { ops.new.fulls ≡ fulls_after ops.old.fulls result }
 {
     let mut node = none(operator);
+    let mut first = true;
     for x in xs {
         let next = expression(ops, slots, vars, x)?;
-        node = apply(ops, operator, node, next)?;
+        node = if first {
+            next
+        } else {
+            apply(ops, operator, node, next)?
+        };
+        first = false;
     }
     Ok(node)
 }

@@ -17,9 +17,9 @@ ghost use Rattle.cb_model.specs.Values.{expr_value, in_scope};
 ghost use Rattle.std.specs.Borrow.{sem};
 ghost use Rattle.cb_elim.specs.Lending.{LendsOps};
 ghost use Rattle.cb_elim.specs.Laws.{NoneIsRefuted, RangeGrows, SolvedIsSolvable};
-ghost use Rattle.cb_elim.specs.Expression.{variable_bits};
+ghost use Rattle.cb_elim.specs.Expression.{ExprCause, ExprRoom, variable_bits};
 ghost use Rattle.cb_elim.specs.Equation.{GeneralRoom};
-ghost use Rattle.cb_elim.specs.Unified.{HasNone, IsMostGeneral, IsReproductive, IsSolved, OnlyValues, UnifyCause};
+ghost use Rattle.cb_elim.specs.Unified.{HasCause, HasNone, IsMostGeneral, IsReproductive, IsSolved, OnlyValues, UnifyCause};
 ghost use Rattle.cb_elim.specs.Moments.{Moment, IsMoment, KeepsMoments, changes_from, moment_of, reverted, rewritten_since, undone, value_since};
 
 mod equation;
@@ -84,7 +84,6 @@ pub struct StoreMark {
 }
 
 impl Model for StoreMark {
-    ghost use Rattle.cb_elim.specs.Unified.{HasNone, IsMostGeneral, IsReproductive, IsSolved, OnlyValues, UnifyCause};
     ghost use Rattle.cb_elim.specs.Moments.{Moment};
 
     ghost Value = { Moment };
@@ -163,6 +162,7 @@ impl Store {
         ensures store { IsStore self.new }
         ensures one { length self.new.nodes.triples ≤ length self.old.nodes.triples + 1 }
         ensures nodes { result ≡ Err Stop.Nodes → length self.new.nodes.triples ≡ self.new.nodes.budget }
+        ensures cause { result ≡ Err Stop.Nodes → HasCause self.old self.new 1 }
         ensures fulls { self.new.nodes.fulls ≡ fulls_after self.old.nodes.fulls result }
     {
         let n = self.ops.node(k, Node::ZERO, Node::ONE)?;
@@ -178,7 +178,10 @@ impl Store {
         ensures only_nodes { OnlyNodes self.old self.new }
         ensures moments { KeepsMoments self.old self.new }
         ensures store { IsStore self.new }
+        ensures room { ExprRoom self.old.slots (length vars.now) e.now self.old.nodes self.new.nodes }
         ensures nodes { result ≡ Err Stop.Nodes → length self.new.nodes.triples ≡ self.new.nodes.budget }
+        ensures cause { result ≡ Err Stop.Nodes → ExprCause self.old self.new e.now }
+        ensures fulls { self.new.nodes.fulls ≡ fulls_after self.old.nodes.fulls result }
     {
         let n = expression(&mut self.ops, &self.slots, vars, e)?;
         Ok(n)
@@ -297,6 +300,7 @@ impl Store {
         ensures store { IsStore self.new }
         ensures fulls { self.new.nodes.fulls ≡ has_refused self.old.nodes.fulls result }
         ensures nodes { result ≡ Err Stop.Nodes → self.old.nodes.budget ≡ length self.old.nodes.triples }
+        ensures cause { result ≡ Err Stop.Nodes → HasCause self.old self.new 1 }
     {
         let before = self.ops.mark();
         let level = self.drawn;
@@ -559,14 +563,19 @@ mod tests {
         Ok(Expr::And(factors))
     }
 
+    // The variable is 1 where the constant is, and free where it is 0.
     #[test]
     fn a_product_is_the_constant(rt: HostRuntime) -> Result<(), Fail> {
         let mut store = one_variable(rt.alloc(), 100)?;
+        let free = store.value(Slot(0));
         let vars = [Some(Slot(0))];
         let times = product(rt.alloc())?;
         let a = Expr::Const(0);
         assert!(rt; is_in_scope(&times, 1, 1) && is_in_scope(&a, 1, 1));
         assert_eq!(rt; equate(&mut store, &times, &a, &vars), Ok(true));
+        assert!(rt; is_here(&store, Slot(0)));
+        let value = store.value(Slot(0));
+        assert_eq!(rt; store.read().parts(value), Some((0, free, Node::ONE)));
         Ok(())
     }
 

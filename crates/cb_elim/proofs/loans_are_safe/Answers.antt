@@ -1,5 +1,4 @@
 use Rattle.std.proofs.Common.{refl}
-use Rattle.cb_elim.specs.Store.{Seen}
 use Rattle.cb_elim.proofs.Views.{store-still, argument-still, connective-argument}
 use Rattle.cb_elim.proofs.Back.{keeps-nodes}
 use Rattle.cb_elim.proofs.loans_are_safe.Goals as goal

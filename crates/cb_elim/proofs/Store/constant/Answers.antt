@@ -1,4 +1,6 @@
 use Rattle.std.proofs.Common.{◌∙◌, arith}
+use Rattle.std.proofs.lemmas.Result.{err_from_is_err_and}
+use Rattle.cb_elim.proofs.Sizes.{one-cause, stopped}
 use Rattle.cb_dd.proofs.Children.{bottom_child, top_child}
 use Rattle.cb_ops.proofs.Ite.{literal-is}
 use Rattle.cb_elim.proofs.Inside.{seen}
@@ -37,3 +39,8 @@ returns-clause-moments c = keeps-nodes c.args.self.now (seen c.self.inside) c.no
 
 pub returns-clause-store : goal.returns-clause-store
 returns-clause-store c = store-grown c.args.self.now (seen c.self.inside) c.self.view_is c.requires.store c.node.new.self c.node.ensures.grows
+
+pub returns-in_err-n-clause-cause : goal.returns-in_err-n-clause-cause
+returns-in_err-n-clause-cause c =
+    let p = err_from_is_err_and c.from_residual.result c.from_residual.ensures.1 in
+    rw (p.1, p.2) (λ e. one-cause c.args.self.now (seen c.self.inside) c.self.view_is c.node.new.self (c.in_err-n.ensures.nodes (cc e)).full (stopped _ c.self.inside.ops.fulls c.in_err-n.field-0.0 c.in_err-n.ensures.fulls (cc e)))

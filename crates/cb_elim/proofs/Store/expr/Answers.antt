@@ -1,4 +1,6 @@
-use Rattle.cb_elim.specs.Expression.{variable_bits}
+use Rattle.std.proofs.Common.{length}
+use Rattle.std.proofs.lemmas.Result.{err_from_is_err_and}
+use Rattle.cb_elim.proofs.Sizes.{expr-room, expr-cause, stopped}
 use Rattle.cb_elim.proofs.Inside.{seen}
 use Rattle.cb_elim.proofs.Views.{only-nodes, store-grown}
 use Rattle.cb_elim.proofs.Back.{keeps-nodes}
@@ -26,3 +28,16 @@ returns-clause-moments c = keeps-nodes c.args.self.now (seen c.self.inside) c.ex
 
 pub returns-clause-store : goal.returns-clause-store
 returns-clause-store c = store-grown c.args.self.now (seen c.self.inside) c.self.view_is c.requires.store c.expression.new.ops c.expression.ensures.grows
+
+pub returns-in_err-n-clause-room : goal.returns-in_err-n-clause-room
+returns-in_err-n-clause-room c = expr-room c.args.self.now (seen c.self.inside) c.self.view_is c.expression.new.ops (length c.args.vars.now) c.args.e.now (rw c.deref.ensures.value at c.expression.ensures.room)
+
+pub returns-clause-room : goal.returns-clause-room
+returns-clause-room c = expr-room c.args.self.now (seen c.self.inside) c.self.view_is c.expression.new.ops (length c.args.vars.now) c.args.e.now (rw c.deref.ensures.value at c.expression.ensures.room)
+
+pub returns-in_err-n-clause-cause : goal.returns-in_err-n-clause-cause
+returns-in_err-n-clause-cause c =
+    let p = err_from_is_err_and c.from_residual.result c.from_residual.ensures.1 in
+    rw (p.1, p.2) (λ e.
+    expr-cause c.args.self.now (seen c.self.inside) c.self.view_is c.expression.new.ops (length c.args.vars.now) c.args.e.now c.expression.ensures.grows c.requires.scope (rw c.deref.ensures.value at c.expression.ensures.room) c.in_err-n.ensures.some
+    (c.in_err-n.ensures.full (cc e)) (stopped _ c.self.inside.ops.fulls c.in_err-n.field-0.0 c.in_err-n.ensures.fulls (cc e)))

@@ -1,4 +1,4 @@
-use Rattle.std.proofs.Common.{◌≡◌, ◌+◌, Option, drop, sym, ap, ◌∙◌}
+use Rattle.std.proofs.Common.{◌+◌, Option, drop, sym, ap, ◌∙◌}
 use Rattle.std.specs.Prelude.{slice_get}
 use Rattle.std.specs.Option.{option_map}
 use Rattle.cb_elim.specs.declared.Change.{Change}

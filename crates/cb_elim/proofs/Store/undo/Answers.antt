@@ -1,7 +1,7 @@
-use Rattle.std.proofs.Common.{◌≡◌, take, drop, subst, sym, ap, arith, rules}
+use Rattle.std.proofs.Common.{◌≡◌, take, drop, subst, sym, arith}
 use Rattle.std.proofs.lemmas.Grind.{common_steps}
 use Rattle.cb_elim.specs.Store.{Seen, IsStore}
-use Rattle.cb_elim.specs.Moments.{Moment, undone, reverted}
+use Rattle.cb_elim.specs.Moments.{Moment, undone}
 use Rattle.cb_elim.proofs.Inside.{seen}
 use Rattle.cb_elim.proofs.Back.{undo-is}
 use Rattle.cb_elim.proofs.Store.undo.Goals as goal

@@ -1,10 +1,10 @@
-use Rattle.std.proofs.Common.{◌≡◌, Bool, true, false, Result, Ok, Err, length, refl, ap, ◌∙◌}
-use Rattle.cb_elim.specs.Store.{Seen, IsAsBefore}
+use Rattle.std.proofs.Common.{Bool, Result, Ok, Err, length, refl, ap, ◌∙◌}
+use Rattle.cb_elim.specs.Store.{Seen}
 use Rattle.cb_dd.specs.declared.Stop.{Stop}
 use Rattle.cb_solution.specs.Solution.{has_refused}
 use Rattle.cb_elim.proofs.Rooms.{unify-cause}
 use Rattle.cb_elim.proofs.Inside.{seen}
-use Rattle.cb_elim.proofs.Equations.{same-solved, keeps-values, keeps-before, store-before, cut-before, not-true, stop-not-true}
+use Rattle.cb_elim.proofs.Equations.{same-values, same-solved, keeps-values, keeps-before, store-before, cut-before, not-true, stop-not-true}
 use Rattle.cb_elim.proofs.Store.unify.Goals as goal
 
 pub returns-then-f-g-clause-solved : goal.returns-then-f-g-clause-solved
@@ -41,3 +41,6 @@ pub returns-in-Err-clause-nodes : goal.returns-in-Err-clause-nodes
 returns-in-Err-clause-nodes c = λ e.
     unify-cause c.args.self.now c.solve.new.self _ c.args.f.0 c.args.g.0 (c.in-Err.ensures.only_nodes (stop-not-true (Err c.in-Err.stop) c.in-Err.stop refl)) c.in-Err.ensures.room (c.in-Err.ensures.full e)
     (c.in-Err.ensures.fulls ∙ ap (λ (r : Result Bool Stop). has_refused c.args.self.now.nodes.fulls r) e) (c.cut-in-Err.ensures.fulls ∙ ap (λ (s : Seen). s.nodes.fulls) c.self-2.view_is)
+
+pub returns-then-f-g-clause-values : goal.returns-then-f-g-clause-values
+returns-then-f-g-clause-values c = λ yes. same-values c.args.self.now

@@ -1,5 +1,7 @@
-use Rattle.std.proofs.Common.{◌≡◌, ◌+◌, List, [], ◌∷◌, ◌++◌, length, take, ap, ◌∙◌, arith, rules}
+use Rattle.std.proofs.Common.{◌≡◌, [], ◌∷◌, ◌++◌, length, take, ap, ◌∙◌, arith, rules}
 use Rattle.std.proofs.lemmas.Grind.{common_steps}
+use Rattle.std.proofs.lemmas.Result.{err_from_is_err_and}
+use Rattle.cb_elim.proofs.Sizes.{one-cause, stopped}
 use Rattle.cb_dd.proofs.Children.{bottom_child, top_child}
 use Rattle.cb_ops.proofs.Ite.{literal-is}
 use Rattle.cb_elim.specs.Store.{Seen}
@@ -65,3 +67,8 @@ returns-clause-store c =
     let free : c.push-2.new.self.items ≡ c.self.inside.free.items ++ record { level = c.self.inside.drawn; slot = c.len-slot.result } ∷ [] = grind (arith, common_steps) in
     variable-store c.args.self.now (seen c.self.inside) c.self.view_is c.requires.store c.node.new.self c.node.ensures.grows c.in_ok-node.node c.in_ok-node.ensures.is_node
     (record { at = λ p. c.in_ok-node.ensures.function p ∙ literal-is c.self.inside.ops.triples (p c.self.inside.drawn) p }) c.len-slot.result at c.push-2.new.self.items free c.push.new.self.items slots
+
+pub returns-in_err-node-clause-cause : goal.returns-in_err-node-clause-cause
+returns-in_err-node-clause-cause c =
+    let p = err_from_is_err_and c.from_residual.result c.from_residual.ensures.1 in
+    rw (p.1, p.2) (λ e. one-cause c.args.self.now (seen c.self.inside) c.self.view_is c.node.new.self (c.in_err-node.ensures.nodes (cc e)).full (stopped _ c.self.inside.ops.fulls c.in_err-node.field-0.0 c.in_err-node.ensures.fulls (cc e)))

@@ -1,5 +1,4 @@
 use Rattle.std.proofs.Common.{◌≡◌, take}
-use Rattle.cb_dd.specs.Diagram.{Store}
 use Rattle.cb_ops.specs.Ops.{Grows}
 use Rattle.cb_elim.specs.Equation.{AreMoved}
 use Rattle.cb_elim.proofs.Rooms.{MovedSo}
