@@ -3,6 +3,7 @@ use Rattle.std.proofs.Common.{◌≡◌, ℕ, true, false, [], ◌++◌, refl, s
 use Rattle.std.specs.Prelude.{Option, Some, None, bytes_eq, ◌⊎◌, ◌==◌}
 use Rattle.std.specs.Fmt.{digits}
 use Rattle.cb_model.specs.Text.{Text}
+use Rattle.cb_model.specs.Output.{ReadWhole}
 use Rattle.cb_model.specs.Outside.{Wrote}
 use Rattle.cb_model.specs.declared.Outcome.{Outcome}
 use Rattle.cb_model.specs.declared.Outcome.TheVariants as outcome
@@ -53,6 +54,10 @@ number_of _ = 0
 other_number : outcome.Refused 5 ≡ outcome.Refused 19 → ⊥
 other_number e = let n : true ≡ false = ap (λ o. number_of o == 5) e in cc
 
+left_over : ReadWhole (codes "p.") (Some (codes "p.")) → ⊥
+left_over (inl e) = cc
+left_over (inr e) = cc
+
 pub rows_hold : OutsideExamples
 unfolding digits
 rows_hold = record {
@@ -100,5 +105,15 @@ rows_hold = record {
   bare_names = refl;
   printed = refl;
   run_outcomes = refl;
+  last_nodes = refl;
+  last_resolutions = refl;
+  last_bits = refl;
+  inner_quote = refl;
+  layouts = refl;
+  pins = refl;
+  pins_of_mux = refl;
+  counts = refl;
+  own_source = refl;
+  left_over = left_over;
   signs = refl;
 }

@@ -4,12 +4,16 @@ use Rattle.cb_model.specs.declared.Outcome.TheVariants as outcome
 use Rattle.cb_model.specs.declared.Side.TheVariants as side
 use Rattle.cb_model.specs.Text.{Text}
 use Rattle.cb_model.specs.declared.Kind.TheVariants as kind
-use Rattle.cb_model.specs.Tokens.{line_at, name_of}
-use Rattle.cb_model.specs.Output.{printed_from, run_outcome}
+use Rattle.cb_model.specs.Tokens.{line_at, name_of, spelled, is_layout}
+use Rattle.cb_model.specs.Output.{printed_from, run_outcome, clause_count, source_of, ReadWhole}
+use Rattle.cb_model.specs.Adder.{adder_text}
+use Rattle.cb_model.specs.Circuits.{pins_of}
+use Rattle.cb_model.specs.declared.GateKind.TheVariants as gate
+use Rattle.cb_rows.specs.OutputExamples as run
 use Rattle.cb_rows.specs.TextExamples.{token_at}
 use Rattle.cb_model.specs.Grammar.{Last, More, one, Name, Variable, Integer, Not, ACall, AnEqual, FormClause, Directive, Rule, FormQuery}
 use Rattle.cb_model.specs.Written.{AreClauses, AreQueries, line_of_clause}
-use Rattle.cb_model.specs.Commands.{Check, Run, Verify, Same, Make, Max, Only, IsNumber, file_name}
+use Rattle.cb_model.specs.Commands.{Check, Run, Verify, Same, Make, Max, Only, IsNumber, file_name, nodes_of, command_of}
 use Rattle.cb_model.specs.Outcomes.{status_of}
 use Rattle.cb_model.specs.Outside.{Rose, Wrote, bytes_named}
 use Rattle.cb_model.specs.Refusals.{unbuilt, refusal_line}
@@ -109,5 +113,19 @@ pub record OutsideExamples : Type 0 where
   pub printed : printed_from 0 (codes "_X" ∷ codes "Y" ∷ codes "X_" ∷ []) ≡ (1, codes "Y") ∷ (2, codes "X_") ∷ []
   -- a stop line makes the whole run a stop
   pub run_outcomes : map run_outcome (true ∷ false ∷ []) ≡ outcome.Stopped ∷ outcome.Done ∷ []
+  -- the last numbers that a budget may have, and the first that it may not
+  pub last_nodes : map nodes_of (codes "16777216" ∷ codes "16777217" ∷ codes "0" ∷ []) ≡ Some (Only 16777216) ∷ None ∷ None ∷ []
+  pub last_resolutions : map (λ n. command_of (codes "run" ∷ codes "F" ∷ n ∷ codes "max" ∷ [])) (codes "10000000" ∷ codes "10000001" ∷ []) ≡
+      Some (Run (codes "F") 10000000 Max) ∷ None ∷ []
+  pub last_bits : map (λ n. command_of (codes "make" ∷ n ∷ codes "max" ∷ [])) (codes "64" ∷ codes "65" ∷ []) ≡ Some (Make 64 Max) ∷ None ∷ []
+  -- a quote ends a quoted name; four bytes are layout; most gates have two to eight inputs
+  pub inner_quote : spelled (39 ∷ 97 ∷ 39 ∷ 98 ∷ 39 ∷ []) ≡ None
+  pub layouts : map is_layout (32 ∷ 9 ∷ 10 ∷ 13 ∷ 11 ∷ 12 ∷ []) ≡ true ∷ true ∷ true ∷ true ∷ false ∷ false ∷ []
+  pub pins : map (pins_of gate.And) (1 ∷ 2 ∷ 8 ∷ 9 ∷ []) ≡ false ∷ true ∷ true ∷ false ∷ []
+  pub pins_of_mux : map (pins_of gate.Mux) (2 ∷ 3 ∷ 4 ∷ []) ≡ false ∷ true ∷ false ∷ []
+  -- facts are no clauses; `make` reads no file; what is left of the input is nothing
+  pub counts : map clause_count (run.clauses ∷ run.not_clauses ∷ []) ≡ 2 ∷ 0 ∷ []
+  pub own_source : source_of (Make 1 Max) (codes "p.") ≡ adder_text 1
+  pub left_over : ReadWhole (codes "p.") (Some (codes "p.")) → ⊥
   -- a name with its number of arguments
   pub signs : map sign_of (Name (codes "f") (More (Variable (codes "X")) (one (atom (codes "a")))) ∷ atom (codes "a") ∷ Variable (codes "X") ∷ []) ≡ Some (codes "f", 2) ∷ Some (codes "a", 0) ∷ None ∷ []
