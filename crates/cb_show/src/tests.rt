@@ -8,16 +8,16 @@ use cb_host::MemSink;
 use cb_ops::Ops;
 use std::test::Fail;
 
-/// One constant, `a`, and no names.
+/// One constant and one name, `a`.
 struct OnlyA;
 
 impl Names for OnlyA {
-    ghost names = { λ _. [] };
+    ghost names = { λ _. codes "a" ∷ [] };
 
     ghost constants = { λ _. codes "a" ∷ [] };
 
     fn name(&self, _n: u32) -> &[u8] {
-        b""
+        b"a"
     }
 
     fn constant(&self, _k: u32) -> &[u8] {
