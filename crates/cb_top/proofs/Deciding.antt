@@ -30,7 +30,7 @@ use Rattle.cb_model.specs.Room.{room_v, circuit_pins, instance_pins, expr_size}
 use Rattle.cb_model.specs.Output.{BelowNodes, sort_refused, IsLoaded, checked_text}
 use Rattle.std.proofs.Math.Nat.{mul-le-mul_right}
 use Rattle.cb_top.specs.declared.lines.TheConstants.{STOPPED_NODES}
-use Rattle.cb_top.specs.Words.{budget_of}
+use Rattle.cb_queries.specs.Told.{budget_of}
 use Rattle.cb_verify.specs.declared.Verdict.{Verdict}
 use Rattle.cb_verify.specs.declared.Verdict.TheVariants as verdict
 use Rattle.cb_verify.specs.Verdict.{IsRight}
