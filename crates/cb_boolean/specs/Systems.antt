@@ -8,6 +8,10 @@ use Rattle.cb_equations.specs.Runs.{equation}
 use Rattle.cb_elim.specs.Store.{Seen, IsStore, IsVariableOf}
 use Rattle.cb_elim.specs.Laws.{IsRangeOf}
 
+-- the goal is an equation of Boolean expressions
+unfoldable pub IsEquation : Goal → Type 0
+IsEquation g = (e : Equal) × (g ≡ equation e)
+
 -- the goals are Boolean equations over so many constants and variables
 pub record IsSystem (constants variables : ℕ) (goals : List Goal) : Type 0 where
   pub es : List Equal

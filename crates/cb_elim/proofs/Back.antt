@@ -135,6 +135,23 @@ moment-now s st = record {
   store = subst IsStore (sym (back-now s)) st;
 }
 
+-- the moments are those of the store, whatever its count of refusals
+pub keeps-fulls : (s : Seen) (n : ℕ) → KeepsMoments s (with_fulls n s)
+keeps-fulls s n = record {
+  moments = λ m w. record { nodes = w.nodes; drawn = w.drawn; free = w.free; slots = w.slots; trail = w.trail; store = store-fulls n (reverted m s) w.store };
+  same = λ m w. refl;
+}
+
+-- going back to the moment of a store whose moments were kept since
+pub back-to : (s now : Seen) (m : Moment) → IsStore s → m ≡ moment_of s → KeepsMoments s now → reverted m now ≡ with_fulls now.nodes.fulls s
+back-to s now m st e k =
+    k.same m (subst (λ (n : Moment). IsMoment n s) (sym e) (moment-now s st))
+    ∙ ap (λ (n : Moment). with_fulls now.nodes.fulls (reverted n s)) e
+    ∙ ap (λ (o : Seen). with_fulls now.nodes.fulls o) (back-now s)
+
+pub keeps-back : (s now new : Seen) (m : Moment) → new ≡ reverted m now → IsStore s → m ≡ moment_of s → KeepsMoments s now → KeepsMoments s new
+keeps-back s now new m r st e k = subst (λ (o : Seen). KeepsMoments s o) (sym (r ∙ back-to s now m st e k)) (keeps-fulls s now.nodes.fulls)
+
 -- ---- one change taken back
 
 pub slots-step : (to : ℕ) (trail new : List Change) (slots : List Node) (c : Change) → trail ≡ new ++ c ∷ [] → to < length trail → undone (drop to new) (slice_set slots c.slot c.value) ≡ undone (drop to trail) slots

@@ -11,16 +11,17 @@ use Rattle.cb_dd.specs.Diagram.{Store, function_of}
 use Rattle.cb_ops.specs.Ops.{Grows}
 use Rattle.cb_ops.specs.Support.{IsListed}
 use Rattle.cb_boole.specs.Elimination.{Function, DependsOnly, rest, solved}
-use Rattle.cb_boole.specs.View.{View, IsLive, IsGood, IsFit, point, unified}
+use Rattle.cb_boole.specs.View.{View, IsLive, IsGood, IsFit, InRange, point, unified}
 use Rattle.cb_boole.proofs.Point.{put_other}
 use Rattle.cb_boole.proofs.Only.{IsHeld, weaker}
-use Rattle.cb_boole.proofs.Unify.{AreFree, cases_stands, left_from, left_into, not_solvable, good_after, is_instance, got_back}
+use Rattle.cb_boole.proofs.Chain.{solved_off}
+use Rattle.cb_boole.proofs.Unify.{AreFree, at_point, cases_stands, constant_away, left_from, left_into, not_solvable, good_after, is_instance, got_back}
 use Rattle.cb_boole.proofs.Grow.{fit_two}
 use Rattle.cb_solution.proofs.Solved.{listed-here, listed-there, listed-cases}
 use Rattle.cb_elim.specs.declared.Change.{Change}
 use Rattle.cb_elim.specs.Store.{Seen, IsStore, IsArgument, IsAsBefore, OnlyNodes, AreThere, with_fulls, stands_in, value_in, view_of}
 use Rattle.cb_elim.specs.Equation.{IsElimination, IsGeneral, HasNoSolution, differ}
-use Rattle.cb_elim.specs.Unified.{IsSolved, HasNone, OnlyValues, IsMostGeneral, IsReproductive}
+use Rattle.cb_elim.specs.Unified.{IsSolved, HasNone, HasSameValues, OnlyValues, IsMostGeneral, IsReproductive}
 use Rattle.cb_elim.specs.Moments.{KeepsMoments, changes_from, undone}
 use Rattle.cb_elim.proofs.Views.{with_values, store-fulls}
 use Rattle.cb_elim.proofs.Back.{keeps}
@@ -102,6 +103,17 @@ module _ (s : Seen) (st : IsStore s) (f g : ℕ) (a : IsArgument s f) (b : IsArg
             ((λ x. (view_of s).values x q), record { at = p; agrees = λ k w. refl; gives = λ x v. refl });
       }
 
+      same-unified : HasSameValues (view_of s) (unified (view_of s) ls (differ s.nodes.triples f g))
+      same-unified p c r x =
+          let d : Function = differ s.nodes.triples f g in
+          let before : InRange (view_of s) p c = record {
+            at = solved ls d r.at;
+            agrees = λ k h. solved_off ls d r.at k (constant_away (view_of s) st.good ls are-free k h) ∙ r.agrees k h;
+            gives = r.gives;
+          } in
+          at_point (unified (view_of s) ls d) good-unified ((unified (view_of s) ls d).values x) (good-unified.fit x) p c r
+          ∙ sym (at_point (view_of s) st.good ((view_of s).values x) (st.good.fit x) p c before)
+
       -- the store with these values
       module _ (vs : List Node) (cs : List Change) (t : Store) (at : (x : ℕ) (p : Bits) → value_in t.triples vs x p ≡ value_in s.nodes.triples s.slots x (solved ls (differ s.nodes.triples f g) p)) where
         view-unified : view_of (record s { slots = vs; trail = cs; nodes = t }) ≡ unified (view_of s) ls (differ s.nodes.triples f g)
@@ -110,6 +122,9 @@ module _ (s : Seen) (st : IsStore s) (f g : ℕ) (a : IsArgument s f) (b : IsArg
 
         pub is-solved : IsSolved (view_of s) (view_of (record s { slots = vs; trail = cs; nodes = t })) (function_of s.nodes.triples f) (function_of s.nodes.triples g)
         is-solved = subst (λ (T : View). IsSolved (view_of s) T (function_of s.nodes.triples f) (function_of s.nodes.triples g)) (sym view-unified) solved-unified
+
+        pub is-same : HasSameValues (view_of s) (view_of (record s { slots = vs; trail = cs; nodes = t }))
+        is-same = subst (λ (T : View). HasSameValues (view_of s) T) (sym view-unified) same-unified
 
         pub store-solved : AreThere t.triples vs → length vs ≡ length s.slots → Each (λ c. c.slot < length s.slots) cs → IsStore (record s { slots = vs; trail = cs; nodes = t })
         store-solved there number within = record {
@@ -138,6 +153,10 @@ module _ (now s : Seen) (is : s ≡ now) (st : IsStore now) (f g : ℕ) (a : IsA
     pub solve-solved : IsSolved (view_of now) (view_of (record s { slots = vs; trail = cs; nodes = t })) (function_of now.nodes.triples f) (function_of now.nodes.triples g)
     solve-solved = subst (λ (o : Seen). IsSolved (view_of o) (view_of (record s { slots = vs; trail = cs; nodes = t })) (function_of o.nodes.triples f) (function_of o.nodes.triples g)) is
         (is-solved s inside f g (argument f a) (argument g b) gen.levels gen.elimination gen.none_left vs cs t gen.at)
+
+    pub solve-same : HasSameValues (view_of now) (view_of (record s { slots = vs; trail = cs; nodes = t }))
+    solve-same = subst (λ (o : Seen). HasSameValues (view_of o) (view_of (record s { slots = vs; trail = cs; nodes = t }))) is
+        (is-same s inside f g (argument f a) (argument g b) gen.levels gen.elimination gen.none_left vs cs t gen.at)
 
     module _ (trail : cs ≡ s.trail ++ changes_from 0 s.slots vs) where
       pub solve-store : IsStore (record s { slots = vs; trail = cs; nodes = t })
@@ -224,6 +243,9 @@ same-values s = record {
   slots = refl;
   nodes = record { budget = refl; more = []; triples = sym (append-nil s.nodes.triples); fulls = omega arith };
 }
+
+pub same-slots : (s : Seen) → HasSameValues (view_of s) (view_of s)
+same-slots s a b r x = refl
 
 -- ---- what the invariant gives
 

@@ -1,5 +1,5 @@
 -- How many nodes an equation adds.
-use Rattle.std.proofs.Common.{◌≡◌, inl, inr, ℕ, zero, suc, ◌+◌, ◌-◌, ◌*◌, min, ◌<◌, ◌≤◌, ◌^◌, Bool, List, [], ◌∷◌, length, get_or, nat_eq, if◌then◌else◌, Result, Err, refl, sym, ap₂, subst, ◌∙◌, arith}
+use Rattle.std.proofs.Common.{◌≡◌, inl, inr, ℕ, zero, suc, ◌+◌, ◌-◌, ◌*◌, min, ◌<◌, ◌≤◌, ◌^◌, Bool, List, [], ◌∷◌, length, get_or, nat_eq, if◌then◌else◌, Result, Err, refl, sym, ap, ap₂, subst, ◌∙◌, arith}
 use Rattle.std.proofs.lemmas.Bool.{cases_Bool, eqb-true, true≢false}
 use Rattle.std.proofs.lemmas.Nat.{pow_pos}
 use Rattle.std.proofs.Math.Nat.{mul-le-mul_left, mul-le-mul_right}
@@ -19,7 +19,7 @@ use Rattle.cb_boole.proofs.Point.{put_other}
 use Rattle.cb_boole.proofs.Bounds.{four_next}
 use Rattle.cb_solution.specs.Solution.{IsFalling, IsSolution, ImagesWithin, SolutionRoom, has_refused}
 use Rattle.cb_solution.proofs.Solved.{listed-here, listed-there, listed-cases, only-from, solution-within}
-use Rattle.cb_elim.specs.Store.{Seen, OnlyNodes, AreThere}
+use Rattle.cb_elim.specs.Store.{Seen, IsAsBefore, OnlyNodes, AreThere}
 use Rattle.cb_elim.specs.Unified.{UnifyCause}
 use Rattle.cb_elim.specs.Equation.{DependEach, GeneralRoom, IsElimination, MovedRoom}
 
@@ -146,6 +146,18 @@ module _ (s t u v : Store) (st : Grows s t) (tu : Grows t u) (ns : List Node) (t
           let b = equation-bound (length ls) (length levels) (length ns) (falling-fit levels ls el.falls within) in
           omega arith;
     }
+
+-- what was cut away adds nothing
+pub room-none : (ns : List Node) (f g : ℕ) (old new : Store) → length new.triples ≤ length old.triples → GeneralRoom ns f g old new
+room-none ns f g old new h = record {
+  most = λ ls df dg dn.
+      let b = equation-bound (length ls) 0 (length ns) (omega arith) in
+      let p : 1 ≤ 2 ^ length ls = pow_pos (length ls) in
+      omega arith;
+}
+
+pub room-before : (old new : Seen) (f g : ℕ) → IsAsBefore old new → GeneralRoom old.slots f g old.nodes new.nodes
+room-before old new f g b = room-none old.slots f g old.nodes new.nodes (let e = ap (λ (s : Seen). length s.nodes.triples) b.same in omega arith)
 
 -- ---- the cause of a stop
 

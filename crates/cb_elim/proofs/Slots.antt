@@ -4,7 +4,7 @@ use Rattle.std.proofs.lemmas.Bool.{cases_eq, cases_Bool, ne_eqb}
 use Rattle.std.proofs.lemmas.List.{append-nil, take-append-le}
 use Rattle.std.proofs.Math.Seq.{take-length}
 use Rattle.std.proofs.Math.Path.{fun_ext}
-use Rattle.cb_model.specs.Bits.{Each}
+use Rattle.cb_model.specs.Bits.{Bits, Each}
 use Rattle.cb_dd.specs.declared.Node.{Node}
 use Rattle.cb_dd.specs.declared.Triple.{Triple}
 use Rattle.cb_dd.specs.Diagram.{Store, IsNode, function_of}
@@ -71,6 +71,16 @@ held-argument s f st n a = record {
   node = a.node;
   fit = subst (λ (S : View). IsFit S (function_of s.nodes.triples n)) (sym (view-held s f)) (fit_with_slot (view_of s) st.good (length s.slots) (function_of s.nodes.triples f.0) (no-slot s st) (function_of s.nodes.triples n) a.fit);
 }
+
+pub held-range : (s : Seen) (f : Node) → IsStore s → HasSameRange (view_of s) (view_of (record s { slots = s.slots ++ f ∷ [] }))
+unfolding view_of
+held-range s f st a b = (
+  λ r. subst (λ (S : View). InRange S a b) (sym (view-held s f)) (record { at = r.at; agrees = r.agrees; gives = λ y v. still y v r.at ∙ r.gives y v }),
+  λ r. let q = subst (λ (S : View). InRange S a b) (view-held s f) r in record { at = q.at; agrees = q.agrees; gives = λ y v. sym (still y v q.at) ∙ q.gives y v },
+)
+  where
+    still : (y : ℕ) → IsVariableOf s.free y → (p : Bits) → with_at (value_in s.nodes.triples s.slots) (length s.slots) (function_of s.nodes.triples f.0) y p ≡ value_in s.nodes.triples s.slots y p
+    still y v p = ap (λ (g : Function). g p) (with_other (value_in s.nodes.triples s.slots) (length s.slots) (function_of s.nodes.triples f.0) y (λ e. no-slot s st (subst (λ x. IsVariableOf s.free x) e v)))
 
 take-first : (ns : List Node) (n : Node) → take (length ns) (ns ++ n ∷ []) ≡ ns
 take-first ns n = take-append-le (length ns) ns (n ∷ []) (omega arith) ∙ take-length ns
@@ -230,6 +240,16 @@ pub store-pushed : (now s : Seen) → s ≡ now → IsStore now → (f : Node) �
 store-pushed now s is st f a items e =
     subst (λ (ns : List Node). IsStore (record s { slots = ns })) (sym e)
     (store-held s f (subst IsStore (sym is) st) (subst (λ (o : Seen). IsArgument o f.0) (sym is) a))
+
+pub range-pushed : (now s : Seen) → s ≡ now → IsStore now → (f : Node) (items : List Node) → items ≡ s.slots ++ f ∷ [] → HasSameRange (view_of now) (view_of (record s { slots = items }))
+range-pushed now s is st f items e =
+    subst (λ (ns : List Node). HasSameRange (view_of now) (view_of (record s { slots = ns }))) (sym e)
+    (subst (λ (o : Seen). HasSameRange (view_of o) (view_of (record s { slots = s.slots ++ f ∷ [] }))) is (held-range s f (subst IsStore (sym is) st)))
+
+pub arguments-pushed : (now s : Seen) → s ≡ now → IsStore now → (f : Node) (items : List Node) → items ≡ s.slots ++ f ∷ [] → (n : ℕ) → IsArgument now n → IsArgument (record s { slots = items }) n
+arguments-pushed now s is st f items e n a =
+    subst (λ (ns : List Node). IsArgument (record s { slots = ns }) n) (sym e)
+    (held-argument s f (subst IsStore (sym is) st) n (subst (λ (o : Seen). IsArgument o n) (sym is) a))
 
 -- a variable more, as the code leaves it
 module _ (now s : Seen) (is : s ≡ now) (st : IsStore now) (t : Store) (g : Grows s.nodes t) (n : Node) (w : IsNode t.triples n.0) (own : StandsFor t.triples n.0 (λ p. p s.drawn))

@@ -17,6 +17,11 @@ pub record IsSolved (S S' : View) (f g : Function) : Type 0 where
   pub left : (a b : Bits) → InRange S' a b ↔ (InRange S a b × (f (point S.stands a b) ≡ g (point S.stands a b)))
   pub some : (a : Bits) → (b : Bits) × InRange S' a b
 
+-- At each pair that is left each slot's value is what it was, that of a slot that is no variable's too, each free level
+-- having the bit of its variable.
+abbrev pub HasSameValues : View → View → Type 0
+HasSameValues S S' = (a b : Bits) → InRange S' a b → (x : ℕ) → S'.values x (point S'.stands a b) ≡ S.values x (point S.stands a b)
+
 -- at some assignment no pair of the range makes the two functions agree
 pub record HasNone (S : View) (f g : Function) : Type 0 where
   pub at : Bits

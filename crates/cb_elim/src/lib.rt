@@ -19,7 +19,7 @@ ghost use Rattle.cb_elim.specs.Lending.{LendsOps};
 ghost use Rattle.cb_elim.specs.Laws.{NoneIsRefuted, RangeGrows, SolvedIsSolvable};
 ghost use Rattle.cb_elim.specs.Expression.{ExprCause, ExprRoom, variable_bits};
 ghost use Rattle.cb_elim.specs.Equation.{GeneralRoom};
-ghost use Rattle.cb_elim.specs.Unified.{HasCause, HasNone, IsMostGeneral, IsReproductive, IsSolved, OnlyValues, UnifyCause};
+ghost use Rattle.cb_elim.specs.Unified.{HasCause, HasNone, HasSameValues, IsMostGeneral, IsReproductive, IsSolved, OnlyValues, UnifyCause};
 ghost use Rattle.cb_elim.specs.Moments.{Moment, IsMoment, KeepsMoments, changes_from, moment_of, reverted, rewritten_since, undone, value_since};
 
 mod equation;
@@ -193,6 +193,8 @@ impl Store {
         requires argument { IsArgument self.old f.0 }
         ensures held { IfOk result (λ s. (s.0 ≡ length self.old.slots) × (self.new ≡ record self.old { slots = self.old.slots ++ f ∷ [] })) }
         ensures refused { OnErr result (self.new ≡ self.old) }
+        ensures range { OnOk result (HasSameRange (view_of self.old) (view_of self.new)) }
+        ensures arguments { OnOk result ((n : ℕ) → IsArgument self.old n → IsArgument self.new n) }
         ensures moments { KeepsMoments self.old self.new }
         ensures store { IsStore self.new }
     {
@@ -222,6 +224,8 @@ impl Store {
         requires store { IsStore self.old }
         requires moment { IsMoment to self.old }
         ensures reverted { self.new ≡ reverted to self.old }
+        ensures back { (s : Seen) → IsStore s → to ≡ moment_of s → KeepsMoments s self.old → self.new ≡ with_fulls self.old.nodes.fulls s }
+        ensures moments { (s : Seen) → IsStore s → to ≡ moment_of s → KeepsMoments s self.old → KeepsMoments s self.new }
         ensures store { IsStore self.new }
     {
         restore(&mut self.trail, &mut self.slots, to.trail);
@@ -298,6 +302,7 @@ impl Store {
         ensures as_before { OnErr result (IsAsBefore self.old self.new) }
         ensures moments { KeepsMoments self.old self.new }
         ensures store { IsStore self.new }
+        ensures one { length self.new.nodes.triples ≤ length self.old.nodes.triples + 1 }
         ensures fulls { self.new.nodes.fulls ≡ has_refused self.old.nodes.fulls result }
         ensures nodes { result ≡ Err Stop.Nodes → self.old.nodes.budget ≡ length self.old.nodes.triples }
         ensures cause { result ≡ Err Stop.Nodes → HasCause self.old self.new 1 }
@@ -331,9 +336,12 @@ impl Store {
         ensures solved { result ≡ Ok true → IsSolved (view_of self.old) (view_of self.new) (function_of self.old.nodes.triples f.0) (function_of self.old.nodes.triples g.0) }
         ensures none { result ≡ Ok false → HasNone (view_of self.old) (function_of self.old.nodes.triples f.0) (function_of self.old.nodes.triples g.0) }
         ensures values { result ≡ Ok true → OnlyValues self.old self.new }
+        ensures slots { result ≡ Ok true → HasSameValues (view_of self.old) (view_of self.new) }
         ensures as_before { (result ≡ Ok true → ⊥) → IsAsBefore self.old self.new }
         ensures same_node { f ≡ g → (result ≡ Ok true) × (self.new ≡ self.old) }
+        ensures room { GeneralRoom self.old.slots f.0 g.0 self.old.nodes self.new.nodes }
         ensures nodes { result ≡ Err Stop.Nodes → UnifyCause self.old self.new f.0 g.0 }
+        ensures fulls { self.new.nodes.fulls ≡ has_refused self.old.nodes.fulls result }
         ensures moments { KeepsMoments self.old self.new }
         ensures store { IsStore self.new }
     {
@@ -362,6 +370,7 @@ impl Store {
         ensures solved { result ≡ Ok true → IsSolved (view_of self.old) (view_of self.new) (function_of self.old.nodes.triples f.0) (function_of self.old.nodes.triples g.0) }
         ensures none { result ≡ Ok false → HasNone (view_of self.old) (function_of self.old.nodes.triples f.0) (function_of self.old.nodes.triples g.0) }
         ensures values { result ≡ Ok true → OnlyValues self.old self.new }
+        ensures slots { result ≡ Ok true → HasSameValues (view_of self.old) (view_of self.new) }
         ensures store { result ≡ Ok true → IsStore self.new }
         ensures only_nodes { (result ≡ Ok true → ⊥) → OnlyNodes self.old self.new }
         ensures room { GeneralRoom self.old.slots f.0 g.0 self.old.nodes self.new.nodes }

@@ -16,11 +16,12 @@ abbrev pub budget_of : Nodes → ℕ
 budget_of Max = 2 ^ 64 - 1
 budget_of (Only n) = n
 
--- the query is of Boolean equations alone, over constants and variables that there are, and not of too many
+-- the query is of Boolean equations alone, over constants and variables that there are, each with its sort, and not of too many
 pub record IsBoolean (s : Source) (a : Asked) : Type 0 where
   pub es : List Equal
   pub equations : AreEquations a.goals a.sorts es
   pub scope : pairs_in_scope (length s.declared.constants) (length a.sorts) es ≡ true
+  pub sorted : length a.variables ≡ length a.sorts
   pub few : length a.goals ≤ 1000000
 
 -- the program, the query and the names of a definition are those of the code

@@ -8,7 +8,10 @@ ghost use Rattle.cb_model.specs.Derivation.{Query as Goals};
 ghost use Rattle.cb_model.specs.Line.{Names};
 ghost use Rattle.cb_queries.specs.Told.{IsBoolean, IsOf, Tells, budget_of};
 
+mod laws;
+
 use cb_sorts::{Program, Query};
+pub use laws::answer_is_parametric;
 use std::alloc::{AllocError, Global};
 
 /// The text of a query's lines, and whether the last is a stop line.

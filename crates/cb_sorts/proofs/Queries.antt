@@ -17,6 +17,7 @@ module _ (d : Declared) (hs ks names : List Sign) (ms : List (Option Text)) (sam
     goals = h.goals;
     variables = h.variables;
     sorts = h.sorts;
+    before = h.before;
     names_are = h.names_are;
   }
 

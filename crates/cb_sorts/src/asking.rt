@@ -11,6 +11,7 @@ ghost use Rattle.cb_known.specs.Modules.{AreNumbers};
 ghost use Rattle.cb_rules.specs.Refused.{RefusesBody};
 ghost use Rattle.cb_sorts.specs.Asked.{Asks};
 
+use crate::printed::printed;
 use crate::query::Query;
 use cb_directives::LoadError;
 use cb_known::has_unknown;
@@ -66,10 +67,13 @@ fn sorted<'s>(
     };
     let mut own = 0;
     let goals = body_goals(alloc, &numbers, &marking, body, &mut own)?;
+    let printed = printed(alloc, marking.variables())?;
     Ok(Query {
         goals,
         marking,
         names: more,
+        before: given.names.len(),
+        printed,
     })
 }
 

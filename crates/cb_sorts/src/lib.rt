@@ -5,6 +5,7 @@ mod asking;
 mod chained;
 mod loading;
 mod names;
+mod printed;
 mod program;
 mod query;
 

@@ -1,9 +1,9 @@
 //! The variables of a rule or query by number, in the order of their first appearance, each `_` a variable of its own.
 #![tactic(auto)]
 
-ghost use Rattle.std.specs.Prelude.{◌≡◌, [], Some, true, length, position, bytes_eq, OnOk, OnErr, IfOk};
+ghost use Rattle.std.specs.Prelude.{◌≡◌, ◌<◌, ℕ, [], Some, true, length, position, bytes_eq, slice_get, OnOk, OnErr, IfOk, MatchOption};
 ghost use Rattle.cb_model.specs.Grammar.{Variable as AVariable};
-ghost use Rattle.cb_model.specs.Sorts.{renamed};
+ghost use Rattle.cb_model.specs.Sorts.{own_name, renamed};
 ghost use Rattle.cb_model.specs.Text.{is_variable};
 ghost use Rattle.cb_model.specs.Loading.{add_name};
 ghost use Rattle.cb_variables.specs.Names.{variable_name, is_proper};
@@ -86,6 +86,18 @@ impl<'s> Variables<'s> {
         self.variables.get_index_of(&variable)
     }
 
+    /// The name of the variable under a number; `None` where it is a `_`.
+    pub fn name(&self, number: usize) -> Option<&'s [u8]>
+        requires { number < length self.now }
+        ensures { MatchOption result ((k : ℕ) × (slice_get self.now number ≡ Some (own_name k))) (λ name. slice_get self.now number ≡ Some name.now) }
+    {
+        match self.variables.get_index(number) {
+            Some(Variable::Named(name)) => Some(*name),
+            Some(Variable::Own(_)) => None,
+            None => unreachable!(),
+        }
+    }
+
     /// Puts a variable at the end, where it isn't there yet, and gives its number.
     pub fn add(&mut self, variable: Variable<'s>) -> Result<usize, AllocError>
         requires { is_proper variable ≡ true }
@@ -117,6 +129,8 @@ mod tests {
         assert_eq!(rt; variables.number(second), Some(2));
         assert_eq!(rt; variables.number(Variable::Named(b"Y")), None);
         assert_eq!(rt; variables.len(), 3);
+        assert_eq!(rt; variables.name(0), Some(b"X".as_slice()));
+        assert_eq!(rt; variables.name(1), None);
         Ok(())
     }
 }

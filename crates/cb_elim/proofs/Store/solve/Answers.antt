@@ -6,7 +6,7 @@ use Rattle.cb_elim.specs.declared.Change.{Change}
 use Rattle.cb_elim.specs.Store.{Seen, OnlyNodes}
 use Rattle.cb_elim.proofs.Inside.{seen}
 use Rattle.cb_elim.proofs.Views.{only-nodes}
-use Rattle.cb_elim.proofs.Equations.{solve-none, solve-solved, solve-store, solve-values}
+use Rattle.cb_elim.proofs.Equations.{solve-none, solve-same, solve-solved, solve-store, solve-values}
 use Rattle.cb_elim.proofs.Store.solve.Goals as goal
 
 pub returns-in_err-found-clause-only_nodes : goal.returns-in_err-found-clause-only_nodes
@@ -33,6 +33,11 @@ pub returns-clause-values : goal.returns-clause-values
 returns-clause-values c = λ yes.
     solve-values c.args.self.now (seen c.self.inside) c.self.view_is c.requires.store c.args.f.0 c.args.g.0 c.requires.f c.requires.g c.in-Some.values.items c.remember.new.trail c.most_general.new.ops
     (rw c.deref.ensures.value at (rw c.in-Some.is at c.in_ok-found.ensures.found)) (rw (c.deref-2.ensures.value, c.deref-3.ensures.value) at c.in_ok-remember.ensures.changes) c.most_general.ensures.grows
+
+pub returns-clause-slots : goal.returns-clause-slots
+returns-clause-slots c = λ yes.
+    solve-same c.args.self.now (seen c.self.inside) c.self.view_is c.requires.store c.args.f.0 c.args.g.0 c.requires.f c.requires.g c.in-Some.values.items c.remember.new.trail c.most_general.new.ops
+    (rw c.deref.ensures.value at (rw c.in-Some.is at c.in_ok-found.ensures.found))
 
 pub returns-clause-store : goal.returns-clause-store
 returns-clause-store c = λ yes.

@@ -1,9 +1,9 @@
-use Rattle.std.proofs.Common.{◌≡◌, take, drop, subst, sym, arith}
+use Rattle.std.proofs.Common.{◌≡◌, take, drop, subst, sym, ◌∙◌, arith}
 use Rattle.std.proofs.lemmas.Grind.{common_steps}
 use Rattle.cb_elim.specs.Store.{Seen, IsStore}
 use Rattle.cb_elim.specs.Moments.{Moment, undone}
 use Rattle.cb_elim.proofs.Inside.{seen}
-use Rattle.cb_elim.proofs.Back.{undo-is}
+use Rattle.cb_elim.proofs.Back.{undo-is, back-to, keeps-back}
 use Rattle.cb_elim.proofs.Store.undo.Goals as goal
 
 pub returns-clause-reverted : goal.returns-clause-reverted
@@ -15,3 +15,9 @@ returns-clause-reverted c =
 
 pub returns-clause-store : goal.returns-clause-store
 returns-clause-store c = subst (λ (s : Seen). IsStore s) (sym (returns-clause-reverted c)) c.requires.moment.store
+
+pub returns-clause-back : goal.returns-clause-back
+returns-clause-back c = λ s st e k. returns-clause-reverted c ∙ back-to s c.args.self.now c.args.to st e k
+
+pub returns-clause-moments : goal.returns-clause-moments
+returns-clause-moments c = λ s st e k. keeps-back s c.args.self.now _ c.args.to (returns-clause-reverted c) st e k

@@ -1,10 +1,10 @@
-use Rattle.std.proofs.Common.{Bool, Result, Ok, Err, length, refl, ap, ◌∙◌}
+use Rattle.std.proofs.Common.{Bool, Result, Ok, Err, length, refl, ap, ◌∙◌, arith}
 use Rattle.cb_elim.specs.Store.{Seen}
 use Rattle.cb_dd.specs.declared.Stop.{Stop}
 use Rattle.cb_solution.specs.Solution.{has_refused}
-use Rattle.cb_elim.proofs.Rooms.{unify-cause}
+use Rattle.cb_elim.proofs.Rooms.{room-before, room-none, unify-cause}
 use Rattle.cb_elim.proofs.Inside.{seen}
-use Rattle.cb_elim.proofs.Equations.{same-values, same-solved, keeps-values, keeps-before, store-before, cut-before, not-true, stop-not-true}
+use Rattle.cb_elim.proofs.Equations.{same-slots, same-values, same-solved, keeps-values, keeps-before, store-before, cut-before, not-true, stop-not-true}
 use Rattle.cb_elim.proofs.Store.unify.Goals as goal
 
 pub returns-then-f-g-clause-solved : goal.returns-then-f-g-clause-solved
@@ -44,3 +44,21 @@ returns-in-Err-clause-nodes c = λ e.
 
 pub returns-then-f-g-clause-values : goal.returns-then-f-g-clause-values
 returns-then-f-g-clause-values c = λ yes. same-values c.args.self.now
+
+pub returns-then-f-g-clause-slots : goal.returns-then-f-g-clause-slots
+returns-then-f-g-clause-slots c = λ yes. same-slots c.args.self.now
+
+pub returns-then-f-g-clause-room : goal.returns-then-f-g-clause-room
+returns-then-f-g-clause-room c = room-none _ c.args.f.0 c.args.g.0 c.args.self.now.nodes _ (omega arith)
+
+pub returns-in-Ok-false-clause-room : goal.returns-in-Ok-false-clause-room
+returns-in-Ok-false-clause-room c =
+    room-before c.args.self.now _ c.args.f.0 c.args.g.0
+    (cut-before c.args.self.now c.solve.new.self (seen c.self-2.inside) c.self-2.view_is (c.in-Ok-false.ensures.only_nodes (not-true (Ok c.in-Ok-false.field-0) c.in-Ok-false.field-0 refl c.in-Ok-false.field-0-test)) c.mark-before.result
+    (c.mark-before.ensures ∙ ap (λ (s : Seen). length s.nodes.triples) c.self.view_is) c.cut.new.self c.cut.ensures.triples c.cut.ensures.budget c.cut.ensures.fulls)
+
+pub returns-in-Err-clause-room : goal.returns-in-Err-clause-room
+returns-in-Err-clause-room c =
+    room-before c.args.self.now _ c.args.f.0 c.args.g.0
+    (cut-before c.args.self.now c.solve.new.self (seen c.self-2.inside) c.self-2.view_is (c.in-Err.ensures.only_nodes (stop-not-true (Err c.in-Err.stop) c.in-Err.stop refl)) c.mark-before.result
+    (c.mark-before.ensures ∙ ap (λ (s : Seen). length s.nodes.triples) c.self.view_is) c.cut-in-Err.new.self c.cut-in-Err.ensures.triples c.cut-in-Err.ensures.budget c.cut-in-Err.ensures.fulls)

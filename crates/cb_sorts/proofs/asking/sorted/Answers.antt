@@ -21,5 +21,6 @@ returns c = λ ms same passes.
       goals = goals_are d names more ms (query_body gs) c.variables.result.now c.args.marking c.requires.marking c.variables.ensures c.in_ok-goals.goals (c.in_ok-goals.ensures ms same);
       variables = c.requires.marking.variables;
       sorts = sorts_are d names more ms (query_body gs) c.variables.result.now c.args.marking c.requires.marking c.variables.ensures c.args.marking.sorts refl;
+      before = c.len.ensures.len;
       names_are = c.in_ok-add_goals.ensures ∙ ap (λ (l : List Sign). add_signs l (goals_signs gs)) (ap (λ (l : List Sign). names ++ l) c.new-more.ensures ∙ append-nil names);
     }
