@@ -1,5 +1,5 @@
 -- What `run` prints over queries of Boolean equations.
-use Rattle.std.specs.Prelude.{◌≡◌, ℕ, ◌≤◌, Bool, true, false, ◌||◌, List, [], ◌∷◌, ◌++◌, length, None, Contains}
+use Rattle.std.specs.Prelude.{◌≡◌, ℕ, ◌≤◌, Bool, true, false, ◌||◌, List, [], ◌∷◌, ◌++◌, length, None}
 use Rattle.std.specs.List.{list_any}
 use Rattle.cb_model.specs.declared.Outcome.{Outcome}
 use Rattle.cb_model.specs.Text.{Text, lines_text, IsPrefix}
@@ -53,11 +53,11 @@ pub data QueriesBegin (l : Loaded) (resolutions : ℕ) (nodes : Nodes) : List Fo
 
 -- ---- the command
 
--- the lines and the outcome over an input: its first refusal; that a query is none of Boolean equations; or the lines of
--- all queries
+-- the lines and the outcome over an input: its first refusal; that not all queries are of Boolean equations; or the lines
+-- of all queries
 pub data InputSays (l : Loaded) (resolutions : ℕ) (nodes : Nodes) (input : Text) (lines : List Text) (outcome : Outcome) : Type 0 where
   refused : (r : Refused) → InputRefused l input r → Refuses r lines outcome → InputSays l resolutions nodes input lines outcome
-  not_boolean : (qs : List FormQuery) (q : FormQuery) → IsAccepted l input qs → Contains qs q → (AsksBooleans l q → ⊥) → Refuses unbuilt lines outcome →
+  not_boolean : (qs : List FormQuery) → IsAccepted l input qs → (Each (AsksBooleans l) qs → ⊥) → Refuses unbuilt lines outcome →
       InputSays l resolutions nodes input lines outcome
   ran : (qs : List FormQuery) (stop : Bool) → IsAccepted l input qs → Each (AsksBooleans l) qs → QueriesTell l resolutions nodes qs lines stop →
       outcome ≡ run_outcome stop → InputSays l resolutions nodes input lines outcome

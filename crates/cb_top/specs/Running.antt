@@ -1,5 +1,5 @@
 -- How `run` decides and writes: over a file, over the program and the input, and query by query.
-use Rattle.std.specs.Prelude.{◌≡◌, ℕ, Bool, true, false, ◌||◌, ◌⊎◌, List, [], ◌∷◌, ◌++◌, Option, Some, Contains, Result, Ok, Err}
+use Rattle.std.specs.Prelude.{◌≡◌, ℕ, Bool, true, false, ◌||◌, ◌⊎◌, List, [], ◌∷◌, ◌++◌, Option, Some, Result, Ok, Err}
 use Rattle.std.specs.List.{list_any}
 use Rattle.cb_model.specs.declared.Outcome.{Outcome}
 use Rattle.cb_model.specs.declared.Outcome.TheVariants as outcome
@@ -38,7 +38,7 @@ Refusing r before after faults now result = Finishes before after faults now (li
 -- the same where there is a refusal; where there is none, memory was wanting
 pub data RefusingSome (q : Option Refused) (before after : Option Text) (faults now : ℕ) (result : Outcome) : Type 0 where
   line : (r : Refused) → Some r ≡ q → Refusing r before after faults now result → RefusingSome q before after faults now result
-  wanting : result ≡ outcome.Memory → Wrote before after [] → RefusingSome q before after faults now result
+  no_line : result ≡ outcome.Memory → Wrote before after [] → RefusingSome q before after faults now result
 
 -- a whole text was written, which goes with the outcome; or a beginning, and the sink failed or memory was wanting
 pub data Writes (Whole : Text → Outcome → Type 0) (Begins : Text → Type 0) (before after : Option Text) (faults now : ℕ) (result : Outcome) : Type 0 where
@@ -68,7 +68,7 @@ pub data AllBegin (s : Source) (nodes : Nodes) : List Asked → Text → Type 0 
 -- what was written where the telling broke off, since memory was wanting or the sink failed
 pub record BreaksAfter (Begins : Text → Type 0) (before after : Option Text) (faults now : ℕ) (result : Outcome) : Type 0 where
   pub text : Text
-  pub begins : Begins text
+  pub beginning : Begins text
   pub wrote : Wrote before after text
   pub cause : (result ≡ outcome.Memory) ⊎ ((result ≡ outcome.Fault side.Output) × Rose faults now)
 
@@ -90,9 +90,9 @@ IsOfEquations a = (es : List Equal) × AreEquations a.goals a.sorts es
 abbrev pub CanBeTold : Source → Asked → Type 0
 CanBeTold s a = IsOfEquations a → IsBoolean s a
 
--- some query isn't of Boolean equations alone; or all of them are, and their texts are written
+-- not all queries are of Boolean equations alone; or all of them are, and their texts are written
 pub data AskedRun (s : Source) (nodes : Nodes) (as : List Asked) (before after : Option Text) (faults now : ℕ) (result : Outcome) : Type 0 where
-  not_boolean : (a : Asked) → Contains as a → (IsOfEquations a → ⊥) → Refusing unbuilt before after faults now result → AskedRun s nodes as before after faults now result
+  not_boolean : (Each IsOfEquations as → ⊥) → Refusing unbuilt before after faults now result → AskedRun s nodes as before after faults now result
   told : Each IsOfEquations as →
       Writes (λ text o. (stop : Bool) × (AllTell s nodes as text stop × (o ≡ run_outcome stop))) (AllBegin s nodes as) before after faults now result →
       AskedRun s nodes as before after faults now result
@@ -144,8 +144,8 @@ pub record IsInput (told left : Option Text) (input : Text) : Type 0 where
 pub data ProgramRun (l : Loaded) (resolutions : ℕ) (nodes : Nodes) (told left : Option Text) (risen reached : ℕ) (before after : Option Text) (faults now : ℕ) (result : Outcome) : Type 0 where
   read : (input : Text) → IsInput told left input → InputWrites l resolutions nodes input before after faults now result →
       ProgramRun l resolutions nodes told left risen reached before after faults now result
-  failed : result ≡ outcome.Fault side.Input → Rose risen reached → Wrote before after [] → ProgramRun l resolutions nodes told left risen reached before after faults now result
-  wanting : result ≡ outcome.Memory → Wrote before after [] → ProgramRun l resolutions nodes told left risen reached before after faults now result
+  input_failed : result ≡ outcome.Fault side.Input → Rose risen reached → Wrote before after [] → ProgramRun l resolutions nodes told left risen reached before after faults now result
+  input_wanting : result ≡ outcome.Memory → Wrote before after [] → ProgramRun l resolutions nodes told left risen reached before after faults now result
 
 -- ---- the file
 
@@ -158,7 +158,7 @@ pub data BytesRun (file : Text) (resolutions : ℕ) (nodes : Nodes) (told left :
   asked : (cs : List FormClause) (d : Declared) → IsRead file cs → AreAccepted cs d → list_any is_fact cs ≡ false →
       ProgramRun (without_circuits cs d) resolutions nodes told left risen reached before after faults now result →
       BytesRun file resolutions nodes told left risen reached before after faults now result
-  wanting : result ≡ outcome.Memory → Wrote before after [] → BytesRun file resolutions nodes told left risen reached before after faults now result
+  bytes_wanting : result ≡ outcome.Memory → Wrote before after [] → BytesRun file resolutions nodes told left risen reached before after faults now result
 
 -- the same over the bytes that were loaded; or nothing is written, since the file failed or memory was wanting
 pub data FileRun (files : Option (List (Text × Text))) (file : Text) (lost found : ℕ) (resolutions : ℕ) (nodes : Nodes) (told left : Option Text) (risen reached : ℕ)
@@ -166,6 +166,6 @@ pub data FileRun (files : Option (List (Text × Text))) (file : Text) (lost foun
   over : (bytes : Text) → ((list : List (Text × Text)) → files ≡ Some list → bytes ≡ bytes_named list file) →
       BytesRun bytes resolutions nodes told left risen reached before after faults now result →
       FileRun files file lost found resolutions nodes told left risen reached before after faults now result
-  failed : result ≡ outcome.Fault side.File → Rose lost found → Wrote before after [] →
+  file_failed : result ≡ outcome.Fault side.File → Rose lost found → Wrote before after [] →
       FileRun files file lost found resolutions nodes told left risen reached before after faults now result
-  wanting : result ≡ outcome.Memory → Wrote before after [] → FileRun files file lost found resolutions nodes told left risen reached before after faults now result
+  file_wanting : result ≡ outcome.Memory → Wrote before after [] → FileRun files file lost found resolutions nodes told left risen reached before after faults now result

@@ -154,6 +154,7 @@ fn answer_to<F: Files>(
     command: Option<Command<'_>>,
     files: &mut F,
 ) -> Result<Answer, Outcome>
+    requires { IsRun (option_map command_view command) → ⊥ }
     ensures answers { IfOk result (λ a. Answers (F.list files.old) (option_map command_view command) (line_bytes a.line) a.outcome) }
     ensures breaks_off { IfErr result (BreaksOff (F.faults files.old) (F.faults files.new)) }
     ensures usage { command ≡ None → IsOk result }
@@ -164,7 +165,7 @@ fn answer_to<F: Files>(
         Some(Command::Verify { file, name, nodes }) => {
             over_file(alloc, file, Task::Verify { name, nodes }, files)
         }
-        Some(Command::Run { .. }) => Ok(Answer::unbuilt()),
+        Some(Command::Run { .. }) => unreachable!(),
         Some(Command::Same { .. }) => Ok(Answer::unbuilt()),
         Some(Command::Make { .. }) => Ok(Answer::unbuilt()),
     }

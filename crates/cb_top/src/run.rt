@@ -1,6 +1,6 @@
 //! `run`: the queries of the input over a file.
 
-ghost use Rattle.std.specs.Prelude.{◌≡◌, ℕ, ◌≤◌, true, List, map, length, MatchResult, MatchBool, Contains};
+ghost use Rattle.std.specs.Prelude.{◌≡◌, ℕ, ◌≤◌, ◌↔◌, true, List, map, length, MatchResult, IsTrue};
 ghost use Rattle.std.specs.List.{list_all};
 ghost use Rattle.cb_model.specs.Bits.{Each};
 ghost use Rattle.cb_model.specs.Text.{Text};
@@ -8,7 +8,6 @@ ghost use Rattle.cb_model.specs.Forms.{clause_form, query_form};
 ghost use Rattle.cb_model.specs.Grammar.{FormClause, FormQuery, ReadsQuery, Whole, IsReading};
 ghost use Rattle.cb_model.specs.Written.{AreClauses, AreQueries, query_written};
 ghost use Rattle.cb_sorts.specs.Source.{Loads};
-ghost use Rattle.cb_sorts.specs.Asked.{Asked};
 ghost use Rattle.cb_queries.specs.Told.{IsBoolean};
 ghost use Rattle.cb_top.specs.Built.{IsRead};
 ghost use Rattle.cb_top.specs.Words.{nodes_view};
@@ -183,14 +182,11 @@ fn over_asked<O: Sink>(
 
 // Whether each query is of Boolean equations.
 fn are_boolean(queries: &[Query<'_>]) -> bool
-    ensures { MatchBool result (Each IsOfEquations queries.now) ((a : Asked) × (Contains queries.now a × (IsOfEquations a → ⊥))) }
+    ensures { IsTrue result ↔ Each IsOfEquations queries.now }
 {
-    for query in queries {
-        if !are_equations(query.goals(), query.sorts()) {
-            return false;
-        }
-    }
-    true
+    queries
+        .iter()
+        .all(|query| are_equations(query.goals(), query.sorts()))
 }
 
 // Tells each query alone and writes its text as it is made; whether a last line of one is a stop line.
