@@ -1,1 +1,2 @@
 mod Parametric
+mod Texts
