@@ -27,7 +27,8 @@ use Rattle.cb_syntax.specs.Readings.{IsRefused}
 use Rattle.cb_host.specs.Host.{IfTold, HasLength, ReadsAll}
 use Rattle.cb_host.specs.declared.Load.TheVariants as load
 use Rattle.cb_equations.specs.Scope.{EquationsRead}
-use Rattle.cb_sorts.specs.Source.{Source, Loads}
+use Rattle.cb_sorts.specs.Source.{Source}
+use Rattle.cb_sorts.specs.OverFile.{QueriesOverFile}
 use Rattle.cb_sorts.specs.Asked.{Asked}
 use Rattle.cb_top.specs.declared.refusals.Whose.TheVariants as whose
 use Rattle.cb_top.specs.Refusals.{read_refused, load_refused, placed_in}
@@ -37,13 +38,13 @@ use Rattle.cb_top.specs.Built.{FileRefused, IsRead, AreAccepted, Running, Comman
 use Rattle.cb_top.specs.Built as built
 use Rattle.cb_top.specs.Run.{Holds, IsAccepted, AsksBooleans, Asking}
 use Rattle.cb_top.specs.Run as run
-use Rattle.cb_top.specs.Running.{Refusing, RefusingSome, line, no_line, Writes, whole, broken, AllTell, AllBegin, AskedRun, not_boolean, told, IsOfEquations, AllAsk, RefusesQueries, InputDecides, InputBegins, nothing_yet, begins, so_far, InputWrites, IsInput, ProgramRun, read, input_failed, input_wanting, BytesRun, bytes_wanting, FileRun, over, file_failed, file_wanting}
+use Rattle.cb_top.specs.Running.{Refusing, RefusingSome, line, no_line, Writes, whole, broken, AllTell, AllBegin, AskedRun, not_boolean, told, IsOfEquations, IsOver, AllAsk, RefusesQueries, InputDecides, InputBegins, nothing_yet, begins, so_far, InputWrites, IsInput, ProgramRun, read, input_failed, input_wanting, BytesRun, bytes_wanting, FileRun, over, file_failed, file_wanting}
 use Rattle.cb_top.specs.Running as ran
 use Rattle.cb_top.specs.Top.{Appends, Prints, IsDecided, IsRun, MayStop}
 use Rattle.cb_top.proofs.Counts.{read_none}
 use Rattle.cb_top.proofs.Outputs as outputs
 use Rattle.cb_top.proofs.Outputs.{prefix-of, appends-whole, says-outcome, some-none, told_or, nothing-prints}
-use Rattle.cb_top.proofs.Telling.{QueryMeant, equations-of, booleans-of, all-tell, all-begin}
+use Rattle.cb_top.proofs.Telling.{equations-of, booleans-of, all-tell, all-begin}
 use Rattle.cb_top.proofs.Once.{refused-holds-not, facts-hold-not}
 
 -- ---- what is written
@@ -110,16 +111,16 @@ module _ {l : Loaded} {resolutions : ℕ} {nodes : Nodes} {input : Text} {before
   writes-long h = refused-writes _ (model.long h)
 
 -- where all queries are accepted
-pub writes-asked : QueryMeant → EquationsRead → (cs : List FormClause) (s : Source) (resolutions : ℕ) (nodes : Nodes) (input : Text) (qs : List FormQuery) (as : List Asked) →
-    {before after : Option Text} {faults now : ℕ} {result : Outcome} → Loads cs s → IsAccepted (without_circuits cs s.declared) input qs → AllAsk cs s qs as → AskedRun s nodes as before after faults now result →
+pub writes-asked : QueriesOverFile → EquationsRead → (cs : List FormClause) (s : Source) (resolutions : ℕ) (nodes : Nodes) (input : Text) (qs : List FormQuery) (ones : List Asked) →
+    {before after : Option Text} {faults now : ℕ} {result : Outcome} → IsOver cs s → IsAccepted (without_circuits cs s.declared) input qs → AllAsk cs s qs ones → AskedRun s nodes ones before after faults now result →
     InputWrites (without_circuits cs s.declared) resolutions nodes input before after faults now result
-writes-asked meant law cs s resolutions nodes input qs as loads i h (not_boolean n k) =
-    decided-writes (record { lines = refusal_line unbuilt ∷ []; says = run.not_boolean qs i (λ b. n (equations-of law cs s qs as h b)) (refl, refl); is = refl }) k
-writes-asked meant law cs s resolutions nodes input qs as loads i h (told e w) =
-    let b : Each (AsksBooleans (without_circuits cs s.declared)) qs = booleans-of law cs s qs as h e in
+writes-asked meant law cs s resolutions nodes input qs ones o i h (not_boolean n k) =
+    decided-writes (record { lines = refusal_line unbuilt ∷ []; says = run.not_boolean qs i (λ b. n (equations-of law cs s qs ones h b)) (refl, refl); is = refl }) k
+writes-asked meant law cs s resolutions nodes input qs ones o i h (told bools w) =
+    let b : Each (AsksBooleans (without_circuits cs s.declared)) qs = booleans-of law cs s qs ones h bools in
     map-writes
-    (λ t o k. let d = all-tell meant cs s loads resolutions nodes qs as t k.0 h k.1.0 in record { lines = d.0; says = run.ran qs k.0 i b d.1.0 k.1.1; is = d.1.1 })
-    (λ t k. so_far qs i b (all-begin meant cs s loads resolutions nodes qs as t h k)) w
+    (λ t e k. let d = all-tell meant cs s o resolutions nodes qs ones t k.0 h k.1.0 in record { lines = d.0; says = run.ran qs k.0 i b d.1.0 k.1.1; is = d.1.1 })
+    (λ t k. so_far qs i b (all-begin meant cs s o resolutions nodes qs ones t h k)) w
 
 -- ---- the input
 

@@ -35,30 +35,30 @@ use Rattle.cb_top.proofs.Outputs.{prefix-of}
 -- ---- what is asked
 
 -- so many first queries are accepted, and this is what they ask
-pub record AskedSoFar (cs : List FormClause) (s : Source) (qs left : List FormQuery) (as : List Asked) : Type 0 where
-  pub asks : (more : List Asked) → AllAsk cs s left more → AllAsk cs s qs (as ++ more)
+pub record AskedSoFar (cs : List FormClause) (s : Source) (qs left : List FormQuery) (ones : List Asked) : Type 0 where
+  pub asks : (more : List Asked) → AllAsk cs s left more → AllAsk cs s qs (ones ++ more)
   pub refusal : (r : Option (Refusal × ℕ)) → QueriesRefusal (without_circuits cs s.declared) left r → QueriesRefusal (without_circuits cs s.declared) qs r
 
 pub asked-none : (cs : List FormClause) (s : Source) (qs : List FormQuery) → AskedSoFar cs s qs qs []
 asked-none cs s qs = record { asks = λ more h. h; refusal = λ r h. h }
 
-pub asked-more : (cs : List FormClause) (s : Source) (qs : List FormQuery) (q : FormQuery) (left : List FormQuery) (as : List Asked) (a : Asked) → AskedSoFar cs s qs (q ∷ left) as →
-    Asks s.declared (heads cs) s.names (module_names cs) q.goals a → AskedSoFar cs s qs left (as ++ a ∷ [])
-asked-more cs s qs q left as a so k = record {
-  asks = λ more h. subst (AllAsk cs s qs) (sym (append_assoc as (a ∷ []) more)) (so.asks (a ∷ more) (more_asked k h));
+pub asked-more : (cs : List FormClause) (s : Source) (qs : List FormQuery) (q : FormQuery) (left : List FormQuery) (ones : List Asked) (a : Asked) → AskedSoFar cs s qs (q ∷ left) ones →
+    Asks s.declared (heads cs) s.names (module_names cs) q.goals a → AskedSoFar cs s qs left (ones ++ a ∷ [])
+asked-more cs s qs q left ones a so k = record {
+  asks = λ more h. subst (AllAsk cs s qs) (sym (append_assoc ones (a ∷ []) more)) (so.asks (a ∷ more) (more_asked k h));
   refusal = λ r h. so.refusal r (passes k.accepted h);
 }
 
-pub asked-all : (cs : List FormClause) (s : Source) (qs : List FormQuery) (as : List Asked) → AskedSoFar cs s qs [] as → AllAsk cs s qs as
-asked-all cs s qs as so = subst (AllAsk cs s qs) (append-nil as) (so.asks [] none_asked)
+pub asked-all : (cs : List FormClause) (s : Source) (qs : List FormQuery) (ones : List Asked) → AskedSoFar cs s qs [] ones → AllAsk cs s qs ones
+asked-all cs s qs ones so = subst (AllAsk cs s qs) (append-nil ones) (so.asks [] none_asked)
 
-pub refuses-one : (cs : List FormClause) (s : Source) (qs : List FormQuery) (q : FormQuery) (left : List FormQuery) (as : List Asked) (e : LoadError) → AskedSoFar cs s qs (q ∷ left) as →
+pub refuses-one : (cs : List FormClause) (s : Source) (qs : List FormQuery) (q : FormQuery) (left : List FormQuery) (ones : List Asked) (e : LoadError) → AskedSoFar cs s qs (q ∷ left) ones →
     RefusesBody s.declared (heads cs) (module_names cs) (query_body q.goals) q.line e → RefusesQueries (without_circuits cs s.declared) qs e
-refuses-one cs s qs q left as (fault.Directive n) so h = absurd h
-refuses-one cs s qs q left as (fault.SortClash n) so h = so.refusal _ (subst (λ m. QueriesRefusal (without_circuits cs s.declared) (q ∷ left) (Some (SortClash, m))) (sym h.0) (stops h.1))
-refuses-one cs s qs q left as (fault.Unknown n) so h = so.refusal _ (subst (λ m. QueriesRefusal (without_circuits cs s.declared) (q ∷ left) (Some (Unknown, m))) (sym h.0) (stops h.1))
-refuses-one cs s qs q left as (fault.Twice n) so h = so.refusal _ (subst (λ m. QueriesRefusal (without_circuits cs s.declared) (q ∷ left) (Some (dir.Twice, m))) (sym h.0) (stops h.1))
-refuses-one cs s qs q left as fault.Memory so h = tt
+refuses-one cs s qs q left ones (fault.Directive n) so h = absurd h
+refuses-one cs s qs q left ones (fault.SortClash n) so h = so.refusal _ (subst (λ m. QueriesRefusal (without_circuits cs s.declared) (q ∷ left) (Some (SortClash, m))) (sym h.0) (stops h.1))
+refuses-one cs s qs q left ones (fault.Unknown n) so h = so.refusal _ (subst (λ m. QueriesRefusal (without_circuits cs s.declared) (q ∷ left) (Some (Unknown, m))) (sym h.0) (stops h.1))
+refuses-one cs s qs q left ones (fault.Twice n) so h = so.refusal _ (subst (λ m. QueriesRefusal (without_circuits cs s.declared) (q ∷ left) (Some (dir.Twice, m))) (sym h.0) (stops h.1))
+refuses-one cs s qs q left ones fault.Memory so h = tt
 
 -- ---- what is written
 
@@ -68,15 +68,15 @@ rose-more a b n h r = omega arith
 -- ---- what is told
 
 -- so many first queries are told and their texts are written
-pub record ToldSoFar (s : Source) (nodes : Nodes) (as left : List Asked) (start now : Option Text) (faults counted : ℕ) (stopped : Bool) : Type 0 where
+pub record ToldSoFar (s : Source) (nodes : Nodes) (ones left : List Asked) (start now : Option Text) (faults counted : ℕ) (stopped : Bool) : Type 0 where
   pub text : Text
   pub wrote : Wrote start now text
   pub count : faults ≤ counted
-  pub tells : (rest : Text) (y : Bool) → AllTell s nodes left rest y → AllTell s nodes as (text ++ rest) (stopped || y)
-  pub begins : (rest : Text) → AllBegin s nodes left rest → AllBegin s nodes as (text ++ rest)
+  pub tells : (rest : Text) (y : Bool) → AllTell s nodes left rest y → AllTell s nodes ones (text ++ rest) (stopped || y)
+  pub begins : (rest : Text) → AllBegin s nodes left rest → AllBegin s nodes ones (text ++ rest)
 
-pub told-none : (s : Source) (nodes : Nodes) (as : List Asked) (now : Option Text) (faults : ℕ) → ToldSoFar s nodes as as now now faults faults false
-told-none s nodes as now faults = record { text = []; wrote = Wrote-none now; count = omega arith; tells = λ rest y h. h; begins = λ rest h. h }
+pub told-none : (s : Source) (nodes : Nodes) (ones : List Asked) (now : Option Text) (faults : ℕ) → ToldSoFar s nodes ones ones now now faults faults false
+told-none s nodes ones now faults = record { text = []; wrote = Wrote-none now; count = omega arith; tells = λ rest y h. h; begins = λ rest h. h }
 
 or-assoc : (x y z : Bool) → (x || (y || z)) ≡ ((x || y) || z)
 or-assoc true y z = refl
@@ -86,25 +86,25 @@ or-false : (x : Bool) → (x || false) ≡ x
 or-false true = refl
 or-false false = refl
 
-module _ (s : Source) (nodes : Nodes) (as : List Asked) (start : Option Text) (faults : ℕ) where
-  pub told-more : (a : Asked) (left : List Asked) (now then : Option Text) (counted more : ℕ) (stopped x : Bool) (t : Text) → ToldSoFar s nodes as (a ∷ left) start now faults counted stopped →
-      TellsAsked s nodes a t x → Wrote now then t → counted ≤ more → ToldSoFar s nodes as left start then faults more (stopped || x)
+module _ (s : Source) (nodes : Nodes) (ones : List Asked) (start : Option Text) (faults : ℕ) where
+  pub told-more : (a : Asked) (left : List Asked) (now then : Option Text) (counted more : ℕ) (stopped x : Bool) (t : Text) → ToldSoFar s nodes ones (a ∷ left) start now faults counted stopped →
+      TellsAsked s nodes a t x → Wrote now then t → counted ≤ more → ToldSoFar s nodes ones left start then faults more (stopped || x)
   told-more a left now then counted more stopped x t so k w m = record {
     text = so.text ++ t;
     wrote = Wrote-then start now then so.text t so.wrote w;
     count = let c = so.count in omega arith;
     tells = λ rest y h.
-      subst (AllTell s nodes as ((so.text ++ t) ++ rest)) (or-assoc stopped x y)
-      (subst (λ u. AllTell s nodes as u (stopped || (x || y))) (sym (append_assoc so.text t rest)) (so.tells (t ++ rest) (x || y) (more_text t rest x y k h refl refl)));
-    begins = λ rest h. subst (AllBegin s nodes as) (sym (append_assoc so.text t rest)) (so.begins (t ++ rest) (behind t rest x k h refl));
+      subst (AllTell s nodes ones ((so.text ++ t) ++ rest)) (or-assoc stopped x y)
+      (subst (λ u. AllTell s nodes ones u (stopped || (x || y))) (sym (append_assoc so.text t rest)) (so.tells (t ++ rest) (x || y) (more_text t rest x y k h refl refl)));
+    begins = λ rest h. subst (AllBegin s nodes ones) (sym (append_assoc so.text t rest)) (so.begins (t ++ rest) (behind t rest x k h refl));
   }
 
-  pub told-all : (now : Option Text) (counted : ℕ) (stopped : Bool) → ToldSoFar s nodes as [] start now faults counted stopped → (text : Text) × (AllTell s nodes as text stopped × Wrote start now text)
+  pub told-all : (now : Option Text) (counted : ℕ) (stopped : Bool) → ToldSoFar s nodes ones [] start now faults counted stopped → (text : Text) × (AllTell s nodes ones text stopped × Wrote start now text)
   told-all now counted stopped so =
-      (so.text, (subst (AllTell s nodes as so.text) (or-false stopped) (subst (λ u. AllTell s nodes as u (stopped || false)) (append-nil so.text) (so.tells [] false no_text)), so.wrote))
+      (so.text, (subst (AllTell s nodes ones so.text) (or-false stopped) (subst (λ u. AllTell s nodes ones u (stopped || false)) (append-nil so.text) (so.tells [] false no_text)), so.wrote))
 
-  pub told-breaks : (a : Asked) (left : List Asked) (now then : Option Text) (counted more : ℕ) (stopped : Bool) (o : Outcome) → ToldSoFar s nodes as (a ∷ left) start now faults counted stopped →
-      BreaksAfter (λ text. (rest : List Asked) → AllBegin s nodes (a ∷ rest) text) now then counted more o → BreaksAfter (AllBegin s nodes as) start then faults more o
+  pub told-breaks : (a : Asked) (left : List Asked) (now then : Option Text) (counted more : ℕ) (stopped : Bool) (o : Outcome) → ToldSoFar s nodes ones (a ∷ left) start now faults counted stopped →
+      BreaksAfter (λ text. (rest : List Asked) → AllBegin s nodes (a ∷ rest) text) now then counted more o → BreaksAfter (AllBegin s nodes ones) start then faults more o
   told-breaks a left now then counted more stopped o so b = record {
     text = so.text ++ b.text;
     beginning = so.begins b.text (b.beginning left);
@@ -155,21 +155,21 @@ written-at (y ∷ ys) x (suc i) e h at = written-at ys x i (and-second (query_wr
 
 -- what is asked before the i-th query
 abbrev pub AskedAt : List FormClause → Source → List RawQuery → ℕ → List Asked → Type 0
-AskedAt cs s raw i as = AskedSoFar cs s (map query_form raw) (map query_form (drop i raw)) as
+AskedAt cs s raw i ones = AskedSoFar cs s (map query_form raw) (map query_form (drop i raw)) ones
 
-ahead : (cs : List FormClause) (s : Source) (raw : List RawQuery) (x : RawQuery) (i : ℕ) (as : List Asked) → i < length raw → x ≡ get_or raw i x → AskedAt cs s raw i as →
-    AskedSoFar cs s (map query_form raw) (query_form x ∷ map query_form (drop (i + 1) raw)) as
-ahead cs s raw x i as h at so = subst (λ qs. AskedSoFar cs s (map query_form raw) (map query_form qs) as) (next-of raw x i h at) so
+ahead : (cs : List FormClause) (s : Source) (raw : List RawQuery) (x : RawQuery) (i : ℕ) (ones : List Asked) → i < length raw → x ≡ get_or raw i x → AskedAt cs s raw i ones →
+    AskedSoFar cs s (map query_form raw) (query_form x ∷ map query_form (drop (i + 1) raw)) ones
+ahead cs s raw x i ones h at so = subst (λ qs. AskedSoFar cs s (map query_form raw) (map query_form qs) ones) (next-of raw x i h at) so
 
-pub asked-on : (cs : List FormClause) (s : Source) (raw : List RawQuery) (x : RawQuery) (i : ℕ) (as now : List Asked) (a : Asked) → i < length raw → x ≡ get_or raw i x → AskedAt cs s raw i as →
-    Asks s.declared (heads cs) s.names (module_names cs) (query_form x).goals a → now ≡ as ++ a ∷ [] → AskedAt cs s raw (i + 1) now
-asked-on cs s raw x i as now a h at so k e =
-    subst (AskedAt cs s raw (i + 1)) (sym e) (asked-more cs s (map query_form raw) (query_form x) (map query_form (drop (i + 1) raw)) as a (ahead cs s raw x i as h at so) k)
+pub asked-on : (cs : List FormClause) (s : Source) (raw : List RawQuery) (x : RawQuery) (i : ℕ) (ones now : List Asked) (a : Asked) → i < length raw → x ≡ get_or raw i x → AskedAt cs s raw i ones →
+    Asks s.declared (heads cs) s.names (module_names cs) (query_form x).goals a → now ≡ ones ++ a ∷ [] → AskedAt cs s raw (i + 1) now
+asked-on cs s raw x i ones now a h at so k e =
+    subst (AskedAt cs s raw (i + 1)) (sym e) (asked-more cs s (map query_form raw) (query_form x) (map query_form (drop (i + 1) raw)) ones a (ahead cs s raw x i ones h at so) k)
 
-pub asked-refused : (cs : List FormClause) (s : Source) (raw : List RawQuery) (x : RawQuery) (i : ℕ) (as : List Asked) (e : LoadError) → i < length raw → x ≡ get_or raw i x → AskedAt cs s raw i as →
+pub asked-refused : (cs : List FormClause) (s : Source) (raw : List RawQuery) (x : RawQuery) (i : ℕ) (ones : List Asked) (e : LoadError) → i < length raw → x ≡ get_or raw i x → AskedAt cs s raw i ones →
     RefusesBody s.declared (heads cs) (module_names cs) (query_body (query_form x).goals) x.line e → RefusesQueries (without_circuits cs s.declared) (map query_form raw) e
-asked-refused cs s raw x i as e h at so k = refuses-one cs s (map query_form raw) (query_form x) (map query_form (drop (i + 1) raw)) as e (ahead cs s raw x i as h at so) k
+asked-refused cs s raw x i ones e h at so k = refuses-one cs s (map query_form raw) (query_form x) (map query_form (drop (i + 1) raw)) ones e (ahead cs s raw x i ones h at so) k
 
-pub asked-end : (cs : List FormClause) (s : Source) (raw : List RawQuery) (i : ℕ) (as : List Asked) → (i < length raw → ⊥) → AskedAt cs s raw i as → AllAsk cs s (map query_form raw) as
-asked-end cs s raw i as n so =
-    asked-all cs s (map query_form raw) as (subst (λ qs. AskedSoFar cs s (map query_form raw) (map query_form qs) as) (drop_all i raw (omega arith)) so)
+pub asked-end : (cs : List FormClause) (s : Source) (raw : List RawQuery) (i : ℕ) (ones : List Asked) → (i < length raw → ⊥) → AskedAt cs s raw i ones → AllAsk cs s (map query_form raw) ones
+asked-end cs s raw i ones n so =
+    asked-all cs s (map query_form raw) ones (subst (λ qs. AskedSoFar cs s (map query_form raw) (map query_form qs) ones) (drop_all i raw (omega arith)) so)

@@ -13,21 +13,22 @@ use Rattle.cb_model.specs.Grammar.{Form, Forms, Variable, Integer, Name, Closed,
 use Rattle.cb_model.specs.Written.{parts_of, goal_parts}
 use Rattle.cb_model.specs.Directives.{Declared, Sign, Refusal, SortClash, Unknown, heads}
 use Rattle.cb_model.specs.Sorts.{Body, Clash, Equation, Numbering, HasSort, apart_goal, apart_goals}
-use Rattle.cb_model.specs.Loading.{BodyRefusal, goal_unknown, query_body, body_variables, module_names, AreGoals, no_goals, more_goals}
+use Rattle.cb_model.specs.Loading.{BodyRefusal, goal_unknown, query_body, module_names, AreGoals, no_goals, more_goals}
 use Rattle.cb_model.specs.Program.{Program}
 use Rattle.cb_model.specs.Derivation.{Query}
 use Rattle.cb_model.specs.Line.{Names}
-use Rattle.cb_model.specs.Output.{Loaded, IsQuery, QueriesRefusal, passes, printed_from}
+use Rattle.cb_model.specs.Output.{Loaded, IsQuery, QueriesRefusal, passes}
 use Rattle.cb_laws.specs.Laws.{Equal}
 use Rattle.cb_equations.specs.Scope.{AreEquations, EquationsRead, IsBoolean, IsBooleanEquation, Reads}
-use Rattle.cb_sorts.specs.Source.{Source, Loads, program_over}
+use Rattle.cb_sorts.specs.Source.{Source}
+use Rattle.cb_sorts.specs.OverFile.{QueriesOverFile, asked_program, asked_query, asked_names}
 use Rattle.cb_sorts.specs.Asked.{Asked, Asks}
 use Rattle.cb_queries.specs.Told as told
 use Rattle.cb_queries.specs.Told.{IsOf, Tells, QueryTells}
 use Rattle.cb_top.specs.Answers.{without_circuits}
 use Rattle.cb_top.specs.Run.{AsksBooleans, QueriesTell, no_queries, more_queries, QueriesBegin}
 use Rattle.cb_top.specs.Run as run
-use Rattle.cb_top.specs.Running.{TellsAsked, AllTell, no_text, more_text, AllBegin, before, within, behind, IsOfEquations, CanBeTold, AllAsk, none_asked, more_asked}
+use Rattle.cb_top.specs.Running.{TellsAsked, AllTell, no_text, more_text, AllBegin, before, within, behind, IsOfEquations, CanBeTold, IsOver, AllAsk, none_asked, more_asked}
 
 -- ---- what a query asks
 
@@ -45,15 +46,15 @@ pub asked-reads : EquationsRead → (cs : List FormClause) (s : Source) (gs : Li
 asked-reads law cs s gs a h = law s.declared (query_body gs) (s.names ++ a.names) (module_names cs) a.goals a.sorts (no-clash s.declared (heads cs) (module_names cs) gs h.accepted) h.goals h.sorts
 
 -- all queries are, exactly where all goals and sorts are
-pub booleans-of : EquationsRead → (cs : List FormClause) (s : Source) (qs : List FormQuery) (as : List Asked) → AllAsk cs s qs as → Each IsOfEquations as →
+pub booleans-of : EquationsRead → (cs : List FormClause) (s : Source) (qs : List FormQuery) (ones : List Asked) → AllAsk cs s qs ones → Each IsOfEquations ones →
     Each (AsksBooleans (without_circuits cs s.declared)) qs
 booleans-of law cs s [] [] none_asked e = tt
-booleans-of law cs s (q ∷ qs) (a ∷ as) (more_asked h hs) e = ((asked-reads law cs s q.goals a h).sound e.0.0 e.0.1, booleans-of law cs s qs as hs e.1)
+booleans-of law cs s (q ∷ qs) (a ∷ ones) (more_asked h hs) e = ((asked-reads law cs s q.goals a h).sound e.0.0 e.0.1, booleans-of law cs s qs ones hs e.1)
 
-pub equations-of : EquationsRead → (cs : List FormClause) (s : Source) (qs : List FormQuery) (as : List Asked) → AllAsk cs s qs as →
-    Each (AsksBooleans (without_circuits cs s.declared)) qs → Each IsOfEquations as
+pub equations-of : EquationsRead → (cs : List FormClause) (s : Source) (qs : List FormQuery) (ones : List Asked) → AllAsk cs s qs ones →
+    Each (AsksBooleans (without_circuits cs s.declared)) qs → Each IsOfEquations ones
 equations-of law cs s [] [] none_asked e = tt
-equations-of law cs s (q ∷ qs) (a ∷ as) (more_asked h hs) e = ((asked-reads law cs s q.goals a h).whole e.0, equations-of law cs s qs as hs e.1)
+equations-of law cs s (q ∷ qs) (a ∷ ones) (more_asked h hs) e = ((asked-reads law cs s q.goals a h).whole e.0, equations-of law cs s qs ones hs e.1)
 
 -- ---- how many goals there are
 
@@ -105,9 +106,9 @@ few-goals law cs s gs a h m es e =
     omega arith
 
 -- accepted queries of a short input can be told, where they are of equations
-pub all-can-be-told : EquationsRead → (cs : List FormClause) (s : Source) (qs : List FormQuery) (as : List Asked) → AllAsk cs s qs as → sum_by (λ q. sum_by goal_parts q.goals) qs ≤ 1048576 → Each (CanBeTold s) as
+pub all-can-be-told : EquationsRead → (cs : List FormClause) (s : Source) (qs : List FormQuery) (ones : List Asked) → AllAsk cs s qs ones → sum_by (λ q. sum_by goal_parts q.goals) qs ≤ 1048576 → Each (CanBeTold s) ones
 all-can-be-told law cs s [] [] none_asked m = tt
-all-can-be-told law cs s (q ∷ qs) (a ∷ as) (more_asked h hs) m =
+all-can-be-told law cs s (q ∷ qs) (a ∷ ones) (more_asked h hs) m =
     let e = sum_by-cons (λ (q : FormQuery). sum_by goal_parts q.goals) q qs in
     ((λ k. record {
       es = k.0;
@@ -115,12 +116,12 @@ all-can-be-told law cs s (q ∷ qs) (a ∷ as) (more_asked h hs) m =
       scope = (asked-reads law cs s q.goals a h).in_scope k.0 k.1;
       few = few-goals law cs s q.goals a h (omega arith) k.0 k.1;
     }),
-    all-can-be-told law cs s qs as hs (omega arith))
+    all-can-be-told law cs s qs ones hs (omega arith))
 
 -- those that are of equations are told
-pub can-tell : (s : Source) (as : List Asked) → Each (CanBeTold s) as → Each IsOfEquations as → Each (told.IsBoolean s) as
+pub can-tell : (s : Source) (ones : List Asked) → Each (CanBeTold s) ones → Each IsOfEquations ones → Each (told.IsBoolean s) ones
 can-tell s [] c e = tt
-can-tell s (a ∷ as) c e = (c.0 e.0, can-tell s as c.1 e.1)
+can-tell s (a ∷ ones) c e = (c.0 e.0, can-tell s ones c.1 e.1)
 
 -- ---- the asked queries, one after another
 
@@ -129,12 +130,6 @@ pub ask-refusal : (cs : List FormClause) (s : Source) (q : FormQuery) (qs : List
 ask-refusal cs s q qs a r h k = passes h.accepted k
 
 -- ---- the definitions of what a query says
-
--- what a query over these clauses means for the definitions
-abbrev pub QueryMeant : Type 0
-QueryMeant = (cs : List FormClause) (s : Source) (gs : List FormGoal) (a : Asked) → Loads cs s → Asks s.declared (heads cs) s.names (module_names cs) gs a →
-    IsQuery (without_circuits cs s.declared) gs (program_over s (s.names ++ a.names) []) (record { goals = a.goals; sorts = a.sorts })
-    (record { names = map (λ (x : Sign). x.0) (s.names ++ a.names); constants = s.declared.constants; printed = printed_from 0 (body_variables (query_body gs)) })
 
 lines-append : (xs ys : List Text) → lines_text (xs ++ ys) ≡ lines_text xs ++ lines_text ys
 lines-append [] ys = refl
@@ -150,32 +145,38 @@ record Lines (l : Loaded) (gs : List FormGoal) (resolutions : ℕ) (nodes : Node
   pub tells : QueryTells p q names resolutions nodes lines stop
   pub is : text ≡ lines_text lines
 
-module _ (meant : QueryMeant) (cs : List FormClause) (s : Source) (loads : Loads cs s) (resolutions : ℕ) (nodes : Nodes) where
+module _ (meant : QueriesOverFile) (cs : List FormClause) (s : Source) (over : IsOver cs s) (resolutions : ℕ) (nodes : Nodes) where
   lines-of : (gs : List FormGoal) (a : Asked) (text : Text) (stop : Bool) → Asks s.declared (heads cs) s.names (module_names cs) gs a → TellsAsked s nodes a text stop →
       Lines (without_circuits cs s.declared) gs resolutions nodes text stop
   lines-of gs a text stop h t =
-      let p : Program = program_over s (s.names ++ a.names) [] in
-      let q : Query = record { goals = a.goals; sorts = a.sorts } in
-      let names : Names = record { names = map (λ (x : Sign). x.0) (s.names ++ a.names); constants = s.declared.constants; printed = printed_from 0 (body_variables (query_body gs)) } in
-      let is : IsOf s a p q names = record { constants = refl; goals = refl; sorts = refl; named = refl; printed = ap (printed_from 0) (sym h.variables) } in
-      let k : Tells p q names resolutions nodes text stop = t p q names resolutions is in
-      record { p = p; q = q; names = names; lines = k.lines; query = meant cs s gs a loads h; tells = k.tells; is = k.is }
+      let p : Program = asked_program s a [] in
+      let is : IsOf s a p (asked_query a) (asked_names s a) = record { constants = refl; goals = refl; sorts = refl; named = refl; printed = refl } in
+      let k : Tells p (asked_query a) (asked_names s a) resolutions nodes text stop = t p (asked_query a) (asked_names s a) resolutions is in
+      record {
+        p = p;
+        q = asked_query a;
+        names = asked_names s a;
+        lines = k.lines;
+        query = meant (without_circuits cs s.declared) s gs a over.written refl over.loads h;
+        tells = k.tells;
+        is = k.is;
+      }
 
-  pub all-tell : (qs : List FormQuery) (as : List Asked) (text : Text) (stop : Bool) → AllAsk cs s qs as → AllTell s nodes as text stop →
+  pub all-tell : (qs : List FormQuery) (ones : List Asked) (text : Text) (stop : Bool) → AllAsk cs s qs ones → AllTell s nodes ones text stop →
       (lines : List Text) × (QueriesTell (without_circuits cs s.declared) resolutions nodes qs lines stop × (text ≡ lines_text lines))
   all-tell [] [] text stop none_asked no_text = ([], (no_queries, refl))
-  all-tell (q ∷ qs) (a ∷ as) text stop (more_asked h hs) (more_text first rest x y t ts e f) =
+  all-tell (q ∷ qs) (a ∷ ones) text stop (more_asked h hs) (more_text first rest x y t ts e f) =
       let one = lines-of q.goals a first x h t in
-      let more = all-tell qs as rest y hs ts in
+      let more = all-tell qs ones rest y hs ts in
       (one.lines ++ more.0,
       (more_queries one.p one.q one.names one.lines more.0 x y one.query one.tells more.1.0 refl f,
       e ∙ ap (λ u. u ++ rest) one.is ∙ ap (λ u. lines_text one.lines ++ u) more.1.1 ∙ sym (lines-append one.lines more.0)))
 
-  pub all-begin : (qs : List FormQuery) (as : List Asked) (text : Text) → AllAsk cs s qs as → AllBegin s nodes as text → QueriesBegin (without_circuits cs s.declared) resolutions nodes qs text
-  all-begin qs as text k (before e) = run.before e
-  all-begin (q ∷ qs) (a ∷ as) text (more_asked h hs) (within whole x t p) =
+  pub all-begin : (qs : List FormQuery) (ones : List Asked) (text : Text) → AllAsk cs s qs ones → AllBegin s nodes ones text → QueriesBegin (without_circuits cs s.declared) resolutions nodes qs text
+  all-begin qs ones text k (before e) = run.before e
+  all-begin (q ∷ qs) (a ∷ ones) text (more_asked h hs) (within whole x t p) =
       let one = lines-of q.goals a whole x h t in
       run.within one.p one.q one.names one.lines x one.query one.tells (subst (IsPrefix text) one.is p)
-  all-begin (q ∷ qs) (a ∷ as) text (more_asked h hs) (behind first rest x t ts e) =
+  all-begin (q ∷ qs) (a ∷ ones) text (more_asked h hs) (behind first rest x t ts e) =
       let one = lines-of q.goals a first x h t in
-      run.behind one.p one.q one.names one.lines x rest one.query one.tells (all-begin qs as rest hs ts) (e ∙ ap (λ u. u ++ rest) one.is)
+      run.behind one.p one.q one.names one.lines x rest one.query one.tells (all-begin qs ones rest hs ts) (e ∙ ap (λ u. u ++ rest) one.is)

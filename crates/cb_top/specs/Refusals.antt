@@ -1,5 +1,5 @@
 -- Refusals that name a place in the file or in the input.
-use Rattle.std.specs.Prelude.{Option, Some, None, option_map, [], ◌++◌, codes}
+use Rattle.std.specs.Prelude.{Option, Some, None, [], ◌++◌, codes}
 use Rattle.cb_model.specs.Text.{Text}
 use Rattle.cb_model.specs.Refusals.{Refused, refused, at_byte, at_line}
 use Rattle.cb_model.specs.Output.{fault_refused, sort_refused}
@@ -32,7 +32,8 @@ refusal_view r = refused r.number (whose_text r.whose ++ place_text r.place) r.t
 
 -- a refusal with its place in the file or in the input
 abbrev pub placed_in : Whose → Option Refused → Option Refused
-placed_in w q = option_map (λ r. record r { place = whose_text w ++ r.place }) q
+placed_in w None = None
+placed_in w (Some r) = Some (record r { place = whose_text w ++ r.place })
 
 -- the refusal of a text that is not read; want of memory is none
 abbrev pub read_refused : ReadError → Option Refused

@@ -1,6 +1,7 @@
 -- How `run` decides and writes: over a file, over the program and the input, and query by query.
 use Rattle.std.specs.Prelude.{◌≡◌, ℕ, Bool, true, false, ◌||◌, ◌⊎◌, List, [], ◌∷◌, ◌++◌, Option, Some, Result, Ok, Err}
-use Rattle.std.specs.List.{list_any}
+use Rattle.std.specs.List.{list_any, list_all}
+use Rattle.cb_model.specs.Written.{clause_written}
 use Rattle.cb_model.specs.declared.Outcome.{Outcome}
 use Rattle.cb_model.specs.declared.Outcome.TheVariants as outcome
 use Rattle.cb_model.specs.declared.Side.TheVariants as side
@@ -55,15 +56,15 @@ TellsAsked s nodes a text stop = (p : Program) (q : Query) (names : Names) (reso
 -- the texts of queries one after another, and whether one of them is stopped
 pub data AllTell (s : Source) (nodes : Nodes) : List Asked → Text → Bool → Type 0 where
   no_text : AllTell s nodes [] [] false
-  more_text : {a : Asked} {as : List Asked} {text : Text} {stop : Bool} (first rest : Text) (x y : Bool) → TellsAsked s nodes a first x → AllTell s nodes as rest y →
-      text ≡ first ++ rest → stop ≡ (x || y) → AllTell s nodes (a ∷ as) text stop
+  more_text : {a : Asked} {ones : List Asked} {text : Text} {stop : Bool} (first rest : Text) (x y : Bool) → TellsAsked s nodes a first x → AllTell s nodes ones rest y →
+      text ≡ first ++ rest → stop ≡ (x || y) → AllTell s nodes (a ∷ ones) text stop
 
 -- such texts so far
 pub data AllBegin (s : Source) (nodes : Nodes) : List Asked → Text → Type 0 where
-  before : {as : List Asked} {text : Text} → text ≡ [] → AllBegin s nodes as text
-  within : {a : Asked} {as : List Asked} {text : Text} (whole : Text) (x : Bool) → TellsAsked s nodes a whole x → IsPrefix text whole → AllBegin s nodes (a ∷ as) text
-  behind : {a : Asked} {as : List Asked} {text : Text} (first rest : Text) (x : Bool) → TellsAsked s nodes a first x → AllBegin s nodes as rest → text ≡ first ++ rest →
-      AllBegin s nodes (a ∷ as) text
+  before : {ones : List Asked} {text : Text} → text ≡ [] → AllBegin s nodes ones text
+  within : {a : Asked} {ones : List Asked} {text : Text} (whole : Text) (x : Bool) → TellsAsked s nodes a whole x → IsPrefix text whole → AllBegin s nodes (a ∷ ones) text
+  behind : {a : Asked} {ones : List Asked} {text : Text} (first rest : Text) (x : Bool) → TellsAsked s nodes a first x → AllBegin s nodes ones rest → text ≡ first ++ rest →
+      AllBegin s nodes (a ∷ ones) text
 
 -- what was written where the telling broke off, since memory was wanting or the sink failed
 pub record BreaksAfter (Begins : Text → Type 0) (before after : Option Text) (faults now : ℕ) (result : Outcome) : Type 0 where
@@ -75,12 +76,12 @@ pub record BreaksAfter (Begins : Text → Type 0) (before after : Option Text) (
 -- one query was told, or its telling broke off
 abbrev pub OneTold : Source → Nodes → Asked → Option Text → Option Text → ℕ → ℕ → Result Bool Outcome → Type 0
 OneTold s nodes a before after faults now (Ok stop) = (text : Text) × (TellsAsked s nodes a text stop × Wrote before after text)
-OneTold s nodes a before after faults now (Err result) = BreaksAfter (λ text. (as : List Asked) → AllBegin s nodes (a ∷ as) text) before after faults now result
+OneTold s nodes a before after faults now (Err result) = BreaksAfter (λ text. (ones : List Asked) → AllBegin s nodes (a ∷ ones) text) before after faults now result
 
 -- all queries were told, or their telling broke off
 abbrev pub AllTold : Source → Nodes → List Asked → Option Text → Option Text → ℕ → ℕ → Result Bool Outcome → Type 0
-AllTold s nodes as before after faults now (Ok stop) = (text : Text) × (AllTell s nodes as text stop × Wrote before after text)
-AllTold s nodes as before after faults now (Err result) = BreaksAfter (AllBegin s nodes as) before after faults now result
+AllTold s nodes ones before after faults now (Ok stop) = (text : Text) × (AllTell s nodes ones text stop × Wrote before after text)
+AllTold s nodes ones before after faults now (Err result) = BreaksAfter (AllBegin s nodes ones) before after faults now result
 
 -- the goals are equations of Boolean expressions, and all variables are Boolean
 abbrev pub IsOfEquations : Asked → Type 0
@@ -91,24 +92,29 @@ abbrev pub CanBeTold : Source → Asked → Type 0
 CanBeTold s a = IsOfEquations a → IsBoolean s a
 
 -- not all queries are of Boolean equations alone; or all of them are, and their texts are written
-pub data AskedRun (s : Source) (nodes : Nodes) (as : List Asked) (before after : Option Text) (faults now : ℕ) (result : Outcome) : Type 0 where
-  not_boolean : (Each IsOfEquations as → ⊥) → Refusing unbuilt before after faults now result → AskedRun s nodes as before after faults now result
-  told : Each IsOfEquations as →
-      Writes (λ text o. (stop : Bool) × (AllTell s nodes as text stop × (o ≡ run_outcome stop))) (AllBegin s nodes as) before after faults now result →
-      AskedRun s nodes as before after faults now result
+pub data AskedRun (s : Source) (nodes : Nodes) (ones : List Asked) (before after : Option Text) (faults now : ℕ) (result : Outcome) : Type 0 where
+  not_boolean : (Each IsOfEquations ones → ⊥) → Refusing unbuilt before after faults now result → AskedRun s nodes ones before after faults now result
+  told : Each IsOfEquations ones →
+      Writes (λ text o. (stop : Bool) × (AllTell s nodes ones text stop × (o ≡ run_outcome stop))) (AllBegin s nodes ones) before after faults now result →
+      AskedRun s nodes ones before after faults now result
 
 -- ---- the input
+
+-- the source is of these clauses, which have the form of the grammar
+pub record IsOver (cs : List FormClause) (s : Source) : Type 0 where
+  pub written : list_all clause_written cs ≡ true
+  pub loads : Loads cs s
 
 -- the source is of some clauses
 pub record IsOfClauses (s : Source) : Type 0 where
   pub cs : List FormClause
-  pub loads : Loads cs s
+  pub over : IsOver cs s
 
 -- each of the queries is accepted, and this is what they ask
 pub data AllAsk (cs : List FormClause) (s : Source) : List FormQuery → List Asked → Type 0 where
   none_asked : AllAsk cs s [] []
-  more_asked : {q : FormQuery} {qs : List FormQuery} {a : Asked} {as : List Asked} → Asks s.declared (heads cs) s.names (module_names cs) q.goals a → AllAsk cs s qs as →
-      AllAsk cs s (q ∷ qs) (a ∷ as)
+  more_asked : {q : FormQuery} {qs : List FormQuery} {a : Asked} {ones : List Asked} → Asks s.declared (heads cs) s.names (module_names cs) q.goals a → AllAsk cs s qs ones →
+      AllAsk cs s (q ∷ qs) (a ∷ ones)
 
 -- the first refusal of the queries' names and sorts; want of memory says nothing
 abbrev pub RefusesQueries : Loaded → List FormQuery → LoadError → Type 0

@@ -326,7 +326,7 @@ fn refuse<O: Sink>(alloc: Global, refusal: Option<Refusal>, out: &mut O) -> Outc
     ensures { RefusingSome (option_map refusal_view refusal) (O.written out.old) (O.written out.new) (O.faults out.old) (O.faults out.new) result }
 {
     match Answer::placed(alloc, refusal) {
-        Ok(answer) => finish(out, answer.line.bytes(), answer.outcome),
+        Ok(placed) => finish(out, placed.line.bytes(), placed.outcome),
         Err(_) => Outcome::Memory,
     }
 }

@@ -1,18 +1,17 @@
 //! `run`: the queries of the input over a file.
 
-ghost use Rattle.std.specs.Prelude.{◌≡◌, ℕ, ◌≤◌, ◌↔◌, true, List, map, length, MatchResult, IsTrue};
+ghost use Rattle.std.specs.Prelude.{◌≡◌, ℕ, ◌≤◌, ◌↔◌, true, List, [], map, length, MatchResult, IsTrue};
 ghost use Rattle.std.specs.List.{list_all};
 ghost use Rattle.cb_model.specs.Bits.{Each};
 ghost use Rattle.cb_model.specs.Text.{Text};
 ghost use Rattle.cb_model.specs.Forms.{clause_form, query_form};
 ghost use Rattle.cb_model.specs.Grammar.{FormClause, FormQuery, ReadsQuery, Whole, IsReading};
 ghost use Rattle.cb_model.specs.Written.{AreClauses, AreQueries, query_written};
-ghost use Rattle.cb_sorts.specs.Source.{Loads};
 ghost use Rattle.cb_queries.specs.Told.{IsBoolean};
 ghost use Rattle.cb_top.specs.Built.{IsRead};
 ghost use Rattle.cb_top.specs.Words.{nodes_view};
 ghost use Rattle.cb_top.specs.Answers.{without_circuits};
-ghost use Rattle.cb_top.specs.Running.{AllAsk, AllTold, AskedRun, BytesRun, CanBeTold, FileRun, InputWrites, IsOfClauses, IsOfEquations, OneTold, ProgramRun, RefusesQueries};
+ghost use Rattle.cb_top.specs.Running.{AllAsk, AllTold, AskedRun, BytesRun, CanBeTold, FileRun, InputWrites, IsOfClauses, IsOfEquations, IsOver, OneTold, ProgramRun, RefusesQueries};
 
 use crate::clauses::have_fact;
 use crate::refusals::{Whose, unloaded, unread};
@@ -22,7 +21,8 @@ use cb_boolean::are_equations;
 use cb_host::{Files, Load, Sink, Source, read_within, write_all};
 use cb_model::{Outcome, RawClause, RawQuery, Side};
 use cb_queries::tell;
-use cb_sorts::{LoadError, Program, Query, load};
+use cb_equations::equations_read;
+use cb_sorts::{LoadError, Program, Query, load, queries_over_file};
 use cb_syntax::{read_clauses, read_queries};
 use std::alloc::Global;
 
@@ -41,63 +41,75 @@ pub fn over_file<F: Files, I: Source, O: Sink>(
     ensures { (resolutions : ℕ) → FileRun (F.list files.old) file.now (F.faults files.old) (F.faults files.new) resolutions (nodes_view nodes) (I.left input.old) (I.left input.new) (I.faults input.old) (I.faults input.new) (O.written out.old) (O.written out.new) (O.faults out.old) (O.faults out.new) result }
 {
     let mut bytes = Vec::new(alloc);
+    let mut asked = Vec::new(alloc);
     match files.load(file, &mut bytes, FILE_LIMIT) {
-        Load::Done => over_bytes(alloc, bytes.as_slice(), nodes, input, out),
+        Load::Done => over_bytes(alloc, bytes.as_slice(), &mut asked, nodes, input, out),
         Load::Long => finish(out, lines::FILE_TOO_LONG, Outcome::Refused(20)),
         Load::Failed => Outcome::Fault(Side::File),
         Load::Memory => Outcome::Memory,
     }
 }
 
-// Runs over the bytes of the file.
-fn over_bytes<I: Source, O: Sink>(
+// Runs over the bytes of the file. What is asked comes into an empty buffer, which lives as long as those bytes.
+fn over_bytes<'s, I: Source, O: Sink>(
     alloc: Global,
-    bytes: &[u8],
+    bytes: &'s [u8],
+    asked: &'s mut Vec<u8>,
     nodes: Nodes,
     input: &mut I,
     out: &mut O,
 ) -> Outcome
-    requires { length bytes.now ≤ 4194304 }
+    requires short { length bytes.now ≤ 4194304 }
+    requires empty { asked.old.items ≡ [] }
     ensures { (resolutions : ℕ) → BytesRun bytes.now resolutions (nodes_view nodes) (I.left input.old) (I.left input.new) (I.faults input.old) (I.faults input.new) (O.written out.old) (O.written out.new) (O.faults out.old) (O.faults out.new) result }
 {
     match read_clauses(alloc, bytes) {
-        Ok(clauses) => over_clauses(alloc, clauses.as_slice(), nodes, input, out),
+        Ok(clauses) => {
+            let clauses = clauses.as_slice();
+            over_clauses(alloc, clauses, asked, nodes, input, out)
+        }
         Err(error) => refuse(alloc, unread(Whose::File, error), out),
     }
 }
 
 // Runs over the clauses of the file.
-fn over_clauses<I: Source, O: Sink>(
+fn over_clauses<'s, I: Source, O: Sink>(
     alloc: Global,
-    clauses: &[RawClause<'_>],
+    clauses: &[RawClause<'s>],
+    asked: &'s mut Vec<u8>,
     nodes: Nodes,
     input: &mut I,
     out: &mut O,
 ) -> Outcome
-    requires { AreClauses 4194304 (map clause_form clauses.now) }
+    requires written { AreClauses 4194304 (map clause_form clauses.now) }
+    requires empty { asked.old.items ≡ [] }
     ensures { (file : Text) (resolutions : ℕ) → IsRead file (map clause_form clauses.now) → BytesRun file resolutions (nodes_view nodes) (I.left input.old) (I.left input.new) (I.faults input.old) (I.faults input.new) (O.written out.old) (O.written out.new) (O.faults out.old) (O.faults out.new) result }
 {
-    match load(alloc, clauses) {
-        Ok(_) if have_fact(clauses) => finish(out, lines::UNBUILT, Outcome::Refused(99)),
-        Ok(program) => over_program(alloc, &program, nodes, input, out),
-        Err(error) => refuse(alloc, unloaded(Whose::File, error), out),
+    let program = match load(alloc, clauses) {
+        Ok(program) => program,
+        Err(error) => return refuse(alloc, unloaded(Whose::File, error), out),
+    };
+    if have_fact(clauses) {
+        return finish(out, lines::UNBUILT, Outcome::Refused(99));
     }
+    over_program(alloc, &program, asked, nodes, input, out)
 }
 
 // Reads the input and runs its queries over the program.
-fn over_program<I: Source, O: Sink>(
+fn over_program<'s, I: Source, O: Sink>(
     alloc: Global,
-    program: &Program<'_>,
+    program: &Program<'s>,
+    asked: &'s mut Vec<u8>,
     nodes: Nodes,
     input: &mut I,
     out: &mut O,
 ) -> Outcome
-    requires { IsOfClauses program.now }
-    ensures { (cs : List FormClause) (resolutions : ℕ) → Loads cs program.now → ProgramRun (without_circuits cs program.now.declared) resolutions (nodes_view nodes) (I.left input.old) (I.left input.new) (I.faults input.old) (I.faults input.new) (O.written out.old) (O.written out.new) (O.faults out.old) (O.faults out.new) result }
+    requires program { IsOfClauses program.now }
+    requires empty { asked.old.items ≡ [] }
+    ensures { (cs : List FormClause) (resolutions : ℕ) → IsOver cs program.now → ProgramRun (without_circuits cs program.now.declared) resolutions (nodes_view nodes) (I.left input.old) (I.left input.new) (I.faults input.old) (I.faults input.new) (O.written out.old) (O.written out.new) (O.faults out.old) (O.faults out.new) result }
 {
-    let mut bytes = Vec::new(alloc);
-    match read_within(input, &mut bytes, INPUT_LIMIT) {
-        Load::Done => over_input(alloc, program, bytes.as_slice(), nodes, out),
+    match read_within(input, asked, INPUT_LIMIT) {
+        Load::Done => over_input(alloc, program, asked.as_slice(), nodes, out),
         Load::Long => finish(out, lines::INPUT_TOO_LONG, Outcome::Refused(20)),
         Load::Failed => Outcome::Fault(Side::Input),
         Load::Memory => Outcome::Memory,
@@ -114,7 +126,7 @@ fn over_input<'s, O: Sink>(
 ) -> Outcome
     requires program { IsOfClauses program.now }
     requires short { length bytes.now ≤ 1048576 }
-    ensures { (cs : List FormClause) (resolutions : ℕ) → Loads cs program.now → InputWrites (without_circuits cs program.now.declared) resolutions (nodes_view nodes) bytes.now (O.written out.old) (O.written out.new) (O.faults out.old) (O.faults out.new) result }
+    ensures { (cs : List FormClause) (resolutions : ℕ) → IsOver cs program.now → InputWrites (without_circuits cs program.now.declared) resolutions (nodes_view nodes) bytes.now (O.written out.old) (O.written out.new) (O.faults out.old) (O.faults out.new) result }
 {
     match read_queries(alloc, bytes) {
         Ok(queries) => over_queries(alloc, program, queries.as_slice(), nodes, out),
@@ -132,8 +144,10 @@ fn over_queries<'s, O: Sink>(
 ) -> Outcome
     requires program { IsOfClauses program.now }
     requires written { AreQueries 1048576 (map query_form raw.now) }
-    ensures { (cs : List FormClause) (resolutions : ℕ) (input : Text) → Loads cs program.now → length input ≤ 1048576 → IsReading ReadsQuery input (Whole (map query_form raw.now)) → InputWrites (without_circuits cs program.now.declared) resolutions (nodes_view nodes) input (O.written out.old) (O.written out.new) (O.faults out.old) (O.faults out.new) result }
+    ensures { (cs : List FormClause) (resolutions : ℕ) (input : Text) → IsOver cs program.now → length input ≤ 1048576 → IsReading ReadsQuery input (Whole (map query_form raw.now)) → InputWrites (without_circuits cs program.now.declared) resolutions (nodes_view nodes) input (O.written out.old) (O.written out.new) (O.faults out.old) (O.faults out.new) result }
 {
+    equations_read();
+    queries_over_file();
     match ask_all(alloc, program, raw) {
         Ok(queries) => over_asked(alloc, program, queries.as_slice(), nodes, out),
         Err(error) => refuse(alloc, unloaded(Whose::Query, error), out),
@@ -147,7 +161,7 @@ fn ask_all<'s>(
     raw: &[RawQuery<'s>],
 ) -> Result<Vec<Query<'s>>, LoadError>
     requires { list_all query_written (map query_form raw.now) ≡ true }
-    ensures { (cs : List FormClause) → Loads cs program.now → MatchResult result (λ v. AllAsk cs program.now (map query_form raw.now) v.items) (RefusesQueries (without_circuits cs program.now.declared) (map query_form raw.now)) }
+    ensures { (cs : List FormClause) → IsOver cs program.now → MatchResult result (λ v. AllAsk cs program.now (map query_form raw.now) v.items) (RefusesQueries (without_circuits cs program.now.declared) (map query_form raw.now)) }
 {
     let mut queries = Vec::new(alloc);
     for query in raw {
