@@ -28,7 +28,7 @@ use Rattle.cb_sorts.specs.Source.{Source}
 use Rattle.cb_sorts.specs.Asked.{Asked, Asks}
 use Rattle.cb_queries.specs.Told.{IsOf, Tells, budget_of}
 use Rattle.cb_top.specs.Answers.{without_circuits}
-use Rattle.cb_top.specs.Running.{TellsAsked, AllTell, no_text, more_text, AllBegin, before, within, behind, BreaksAfter, AllAsk, none_asked, more_asked, RefusesQueries}
+use Rattle.cb_top.specs.Running.{TellsAsked, AllTell, no_text, more_text, AllBegin, no_text_yet, within, behind, BreaksAfter, AllAsk, none_asked, more_asked, RefusesQueries}
 use Rattle.cb_host.proofs.Writes.{Wrote-none, Wrote-then}
 use Rattle.cb_top.proofs.Outputs.{prefix-of}
 
@@ -118,7 +118,7 @@ module _ (s : Source) (nodes : Nodes) (ones : List Asked) (start : Option Text) 
 
 -- one query whose memory was wanting
 pub one-wanting : (s : Source) (nodes : Nodes) (a : Asked) (now : Option Text) (faults counted : ℕ) → BreaksAfter (λ text. (rest : List Asked) → AllBegin s nodes (a ∷ rest) text) now now faults counted outcome.Memory
-one-wanting s nodes a now faults counted = record { text = []; beginning = λ rest. before refl; wrote = Wrote-none now; cause = inl refl }
+one-wanting s nodes a now faults counted = record { text = []; beginning = λ rest. no_text_yet refl; wrote = Wrote-none now; cause = inl refl }
 
 -- one query that was told, and the sink failed
 pub one-broken : (s : Source) (nodes : Nodes) (a : Asked) (start now : Option Text) (faults counted : ℕ) (text : Text) (x : Bool) (n : ℕ) → TellsAsked s nodes a text x → Wrote start now (take n text) → Rose faults counted →

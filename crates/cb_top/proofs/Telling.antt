@@ -28,7 +28,7 @@ use Rattle.cb_queries.specs.Told.{IsOf, Tells, QueryTells}
 use Rattle.cb_top.specs.Answers.{without_circuits}
 use Rattle.cb_top.specs.Run.{AsksBooleans, QueriesTell, no_queries, more_queries, QueriesBegin}
 use Rattle.cb_top.specs.Run as run
-use Rattle.cb_top.specs.Running.{TellsAsked, AllTell, no_text, more_text, AllBegin, before, within, behind, IsOfEquations, CanBeTold, IsOver, AllAsk, none_asked, more_asked}
+use Rattle.cb_top.specs.Running.{TellsAsked, AllTell, no_text, more_text, AllBegin, no_text_yet, within, behind, IsOfEquations, CanBeTold, IsOver, AllAsk, none_asked, more_asked}
 
 -- ---- what a query asks
 
@@ -173,7 +173,7 @@ module _ (meant : QueriesOverFile) (cs : List FormClause) (s : Source) (over : I
       e ∙ ap (λ u. u ++ rest) one.is ∙ ap (λ u. lines_text one.lines ++ u) more.1.1 ∙ sym (lines-append one.lines more.0)))
 
   pub all-begin : (qs : List FormQuery) (ones : List Asked) (text : Text) → AllAsk cs s qs ones → AllBegin s nodes ones text → QueriesBegin (without_circuits cs s.declared) resolutions nodes qs text
-  all-begin qs ones text k (before e) = run.before e
+  all-begin qs ones text k (no_text_yet e) = run.none_yet e
   all-begin (q ∷ qs) (a ∷ ones) text (more_asked h hs) (within whole x t p) =
       let one = lines-of q.goals a whole x h t in
       run.within one.p one.q one.names one.lines x one.query one.tells (subst (IsPrefix text) one.is p)

@@ -44,7 +44,7 @@ pub data QueriesTell (l : Loaded) (resolutions : ℕ) (nodes : Nodes) : List For
 
 -- the queries' texts so far: those of some first queries whole, and then a front of the next one's
 pub data QueriesBegin (l : Loaded) (resolutions : ℕ) (nodes : Nodes) : List FormQuery → Text → Type 0 where
-  before : {xs : List FormQuery} {text : Text} → text ≡ [] → QueriesBegin l resolutions nodes xs text
+  none_yet : {xs : List FormQuery} {text : Text} → text ≡ [] → QueriesBegin l resolutions nodes xs text
   within : {x : FormQuery} {xs : List FormQuery} {text : Text} (p : Program) (q : Query) (names : Names) (ls : List Text) (stop : Bool) →
       IsQuery l x.goals p q names → QueryTells p q names resolutions nodes ls stop → IsPrefix text (lines_text ls) → QueriesBegin l resolutions nodes (x ∷ xs) text
   behind : {x : FormQuery} {xs : List FormQuery} {text : Text} (p : Program) (q : Query) (names : Names) (ls : List Text) (stop : Bool) (rest : Text) →

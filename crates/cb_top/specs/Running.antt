@@ -61,7 +61,7 @@ pub data AllTell (s : Source) (nodes : Nodes) : List Asked → Text → Bool →
 
 -- such texts so far
 pub data AllBegin (s : Source) (nodes : Nodes) : List Asked → Text → Type 0 where
-  before : {ones : List Asked} {text : Text} → text ≡ [] → AllBegin s nodes ones text
+  no_text_yet : {ones : List Asked} {text : Text} → text ≡ [] → AllBegin s nodes ones text
   within : {a : Asked} {ones : List Asked} {text : Text} (whole : Text) (x : Bool) → TellsAsked s nodes a whole x → IsPrefix text whole → AllBegin s nodes (a ∷ ones) text
   behind : {a : Asked} {ones : List Asked} {text : Text} (first rest : Text) (x : Bool) → TellsAsked s nodes a first x → AllBegin s nodes ones rest → text ≡ first ++ rest →
       AllBegin s nodes (a ∷ ones) text

@@ -155,9 +155,9 @@ fn answer_to<F: Files>(
     files: &mut F,
 ) -> Result<Answer, Outcome>
     requires { IsRun (option_map command_view command) → ⊥ }
-    ensures answers { IfOk result (λ a. Answers (F.list files.old) (option_map command_view command) (line_bytes a.line) a.outcome) }
+    ensures answers { IfOk result (λ a. Answers (F.list files.old) (option_map command_view command.entry) (line_bytes a.line) a.outcome) }
     ensures breaks_off { IfErr result (BreaksOff (F.faults files.old) (F.faults files.new)) }
-    ensures usage { command ≡ None → IsOk result }
+    ensures usage { command.entry ≡ None → IsOk result }
 {
     match command {
         None => Ok(Answer::refusal(lines::USAGE, 19)),

@@ -1,6 +1,6 @@
 //! `run`: the queries of the input over a file.
 
-ghost use Rattle.std.specs.Prelude.{◌≡◌, ℕ, ◌≤◌, ◌↔◌, true, List, [], map, length, MatchResult, IsTrue};
+ghost use Rattle.std.specs.Prelude.{◌≡◌, ℕ, ◌≤◌, ◌↔◌, true, List, map, length, MatchResult, IsTrue};
 ghost use Rattle.std.specs.List.{list_all};
 ghost use Rattle.cb_model.specs.Bits.{Each};
 ghost use Rattle.cb_model.specs.Text.{Text};
@@ -41,48 +41,40 @@ pub fn over_file<F: Files, I: Source, O: Sink>(
     ensures { (resolutions : ℕ) → FileRun (F.list files.old) file.now (F.faults files.old) (F.faults files.new) resolutions (nodes_view nodes) (I.left input.old) (I.left input.new) (I.faults input.old) (I.faults input.new) (O.written out.old) (O.written out.new) (O.faults out.old) (O.faults out.new) result }
 {
     let mut bytes = Vec::new(alloc);
-    let mut asked = Vec::new(alloc);
     match files.load(file, &mut bytes, FILE_LIMIT) {
-        Load::Done => over_bytes(alloc, bytes.as_slice(), &mut asked, nodes, input, out),
+        Load::Done => over_bytes(alloc, bytes.as_slice(), nodes, input, out),
         Load::Long => finish(out, lines::FILE_TOO_LONG, Outcome::Refused(20)),
         Load::Failed => Outcome::Fault(Side::File),
         Load::Memory => Outcome::Memory,
     }
 }
 
-// Runs over the bytes of the file. What is asked comes into an empty buffer, which lives as long as those bytes.
-fn over_bytes<'s, I: Source, O: Sink>(
+// Runs over the bytes of the file.
+fn over_bytes<I: Source, O: Sink>(
     alloc: Global,
-    bytes: &'s [u8],
-    asked: &'s mut Vec<u8>,
+    bytes: &[u8],
     nodes: Nodes,
     input: &mut I,
     out: &mut O,
 ) -> Outcome
-    requires short { length bytes.now ≤ 4194304 }
-    requires empty { asked.old.items ≡ [] }
+    requires { length bytes.now ≤ 4194304 }
     ensures { (resolutions : ℕ) → BytesRun bytes.now resolutions (nodes_view nodes) (I.left input.old) (I.left input.new) (I.faults input.old) (I.faults input.new) (O.written out.old) (O.written out.new) (O.faults out.old) (O.faults out.new) result }
 {
     match read_clauses(alloc, bytes) {
-        Ok(clauses) => {
-            let clauses = clauses.as_slice();
-            over_clauses(alloc, clauses, asked, nodes, input, out)
-        }
+        Ok(clauses) => over_clauses(alloc, clauses.as_slice(), nodes, input, out),
         Err(error) => refuse(alloc, unread(Whose::File, error), out),
     }
 }
 
 // Runs over the clauses of the file.
-fn over_clauses<'s, I: Source, O: Sink>(
+fn over_clauses<I: Source, O: Sink>(
     alloc: Global,
-    clauses: &[RawClause<'s>],
-    asked: &'s mut Vec<u8>,
+    clauses: &[RawClause<'_>],
     nodes: Nodes,
     input: &mut I,
     out: &mut O,
 ) -> Outcome
-    requires written { AreClauses 4194304 (map clause_form clauses.now) }
-    requires empty { asked.old.items ≡ [] }
+    requires { AreClauses 4194304 (map clause_form clauses.now) }
     ensures { (file : Text) (resolutions : ℕ) → IsRead file (map clause_form clauses.now) → BytesRun file resolutions (nodes_view nodes) (I.left input.old) (I.left input.new) (I.faults input.old) (I.faults input.new) (O.written out.old) (O.written out.new) (O.faults out.old) (O.faults out.new) result }
 {
     let program = match load(alloc, clauses) {
@@ -92,24 +84,23 @@ fn over_clauses<'s, I: Source, O: Sink>(
     if have_fact(clauses) {
         return finish(out, lines::UNBUILT, Outcome::Refused(99));
     }
-    over_program(alloc, &program, asked, nodes, input, out)
+    over_program(alloc, &program, nodes, input, out)
 }
 
 // Reads the input and runs its queries over the program.
-fn over_program<'s, I: Source, O: Sink>(
+fn over_program<I: Source, O: Sink>(
     alloc: Global,
-    program: &Program<'s>,
-    asked: &'s mut Vec<u8>,
+    program: &Program<'_>,
     nodes: Nodes,
     input: &mut I,
     out: &mut O,
 ) -> Outcome
-    requires program { IsOfClauses program.now }
-    requires empty { asked.old.items ≡ [] }
+    requires { IsOfClauses program.now }
     ensures { (cs : List FormClause) (resolutions : ℕ) → IsOver cs program.now → ProgramRun (without_circuits cs program.now.declared) resolutions (nodes_view nodes) (I.left input.old) (I.left input.new) (I.faults input.old) (I.faults input.new) (O.written out.old) (O.written out.new) (O.faults out.old) (O.faults out.new) result }
 {
-    match read_within(input, asked, INPUT_LIMIT) {
-        Load::Done => over_input(alloc, program, asked.as_slice(), nodes, out),
+    let mut bytes = Vec::new(alloc);
+    match read_within(input, &mut bytes, INPUT_LIMIT) {
+        Load::Done => over_input(alloc, program, bytes.as_slice(), nodes, out),
         Load::Long => finish(out, lines::INPUT_TOO_LONG, Outcome::Refused(20)),
         Load::Failed => Outcome::Fault(Side::Input),
         Load::Memory => Outcome::Memory,
@@ -117,10 +108,10 @@ fn over_program<'s, I: Source, O: Sink>(
 }
 
 // Runs the queries of these bytes.
-fn over_input<'s, O: Sink>(
+fn over_input<'s: 'i, 'i, O: Sink>(
     alloc: Global,
     program: &Program<'s>,
-    bytes: &'s [u8],
+    bytes: &'i [u8],
     nodes: Nodes,
     out: &mut O,
 ) -> Outcome
