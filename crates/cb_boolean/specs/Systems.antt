@@ -1,10 +1,11 @@
 -- What solving a list of Boolean equations leaves.
-use Rattle.std.specs.Prelude.{◌≡◌, ℕ, ◌+◌, ◌<◌, true, List, [], ◌∷◌, ◌++◌, map, length, Option, Some, None}
+use Rattle.std.specs.Prelude.{◌≡◌, ℕ, ◌+◌, ◌<◌, true, List, [], ◌∷◌, ◌++◌, map, length, Option, Some, None, slice_index_or}
 use Rattle.cb_model.specs.declared.Goal.{Goal}
 use Rattle.cb_model.specs.Values.{World}
 use Rattle.cb_model.specs.Equations.{Solvable, Refuted}
 use Rattle.cb_laws.specs.Laws.{Equal, pair_item, pairs_in_scope}
 use Rattle.cb_equations.specs.Runs.{equation}
+use Rattle.cb_elim.specs.declared.Slot.{Slot}
 use Rattle.cb_elim.specs.Store.{Seen, IsStore, IsVariableOf}
 use Rattle.cb_elim.specs.Laws.{IsRangeOf}
 
@@ -17,6 +18,11 @@ pub record IsSystem (constants variables : ℕ) (goals : List Goal) : Type 0 whe
   pub es : List Equal
   pub are : goals ≡ map equation es
   pub scope : pairs_in_scope constants variables es ≡ true
+
+-- so many slots, each with its own number
+pub record AreNumbered (v : ℕ) (vars : List (Option Slot)) : Type 0 where
+  pub number : length vars ≡ v
+  pub at : (n : ℕ) → n < v → slice_index_or vars n None ≡ Some (record { 0 = n })
 
 -- the store has a slot for each variable, in order, and its range is what satisfies the equations, which are solvable
 pub record IsSolvedBy (c v nodes : ℕ) (es : List Equal) (s : Seen) : Type 0 where

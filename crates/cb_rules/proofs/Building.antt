@@ -1,5 +1,5 @@
 -- The clause of a rule from its parts.
-use Rattle.std.proofs.Common.{◌≡◌, ℕ, zero, suc, ◌+◌, ◌<◌, List, [], ◌∷◌, ◌++◌, map, length, get_or, Option, Some, None, refl, sym, ◌∙◌, ap, subst, arith}
+use Rattle.std.proofs.Common.{◌≡◌, ℕ, suc, ◌+◌, List, [], ◌∷◌, ◌++◌, map, length, get_or, Option, refl, sym, ◌∙◌, ap, subst, arith}
 use Rattle.std.proofs.lemmas.List.{append-nil}
 use Rattle.cb_model.specs.Text.{Text}
 use Rattle.cb_model.specs.declared.Sort.{Sort}
@@ -11,7 +11,7 @@ use Rattle.cb_model.specs.Grammar.{Form, FormGoal}
 use Rattle.cb_model.specs.Forms.{goal_form}
 use Rattle.cb_model.specs.Directives.{Sign, Declared}
 use Rattle.cb_model.specs.Sorts.{Body, apart, apart_goal, apart_goals, Equation, HasSort, Numbering, sign_number, as_arguments}
-use Rattle.cb_model.specs.Loading.{body_of, query_body, head_sign, numbering, HaveSorts, body_variables, AreGoals, IsClause}
+use Rattle.cb_model.specs.Loading.{body_of, head_sign, numbering, HaveSorts, body_variables, AreGoals, IsClause}
 use Rattle.cb_marking.specs.Marking.{Sorted, IsMarking}
 use Rattle.cb_trees.specs.Places.{goals_at}
 use Rattle.cb_rules.proofs.InOrder.{are_goals}

@@ -8,15 +8,13 @@ use Rattle.cb_model.specs.declared.Sort.TheVariants as sort
 use Rattle.cb_model.specs.declared.Goal.{Goal}
 use Rattle.cb_model.specs.declared.Clause.{Clause}
 use Rattle.cb_model.specs.declared.RawGoal.{RawGoal}
-use Rattle.cb_model.specs.declared.RawTerm.{RawTerm}
 use Rattle.cb_model.specs.declared.RawClause.{RawClause}
-use Rattle.cb_model.specs.declared.RawClause.TheVariants as raw_clause
 use Rattle.cb_model.specs.Grammar.{Form, Forms, FormGoal, ACall, AnEqual, FormClause, Directive, Rule}
-use Rattle.cb_model.specs.Forms.{form_of, goal_form, clause_form}
+use Rattle.cb_model.specs.Forms.{goal_form, clause_form}
 use Rattle.cb_model.specs.Written.{goal_written, clause_written}
 use Rattle.cb_model.specs.Directives.{Sign, has_sign, Declared, Refusal, SortClash, Unknown, Twice}
 use Rattle.cb_model.specs.Sorts.{Body, apart_goal, apart_goals, Equation, HasSort, Numbering}
-use Rattle.cb_model.specs.Loading.{is_fact, body_of, BodyRefusal, RulesRefusal, none, skip, directive, passes, refused, IsGoal, a_call, an_equal, AreGoals, no_goals, more_goals, IsClause, AreClauses, no_clauses, skips, skips_directive, a_clause}
+use Rattle.cb_model.specs.Loading.{is_fact, body_of, BodyRefusal, RulesRefusal, none, skip, directive, passes, refused, IsGoal, a_call, an_equal, AreGoals, no_goals, more_goals, AreClauses, no_clauses, skips, skips_directive, a_clause}
 use Rattle.cb_directives.specs.declared.fault.LoadError.{LoadError}
 use Rattle.cb_directives.specs.declared.fault.LoadError.TheVariants as error
 use Rattle.cb_directives.proofs.Reading.{drop_past}

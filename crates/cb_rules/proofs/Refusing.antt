@@ -1,7 +1,7 @@
 -- What a rule or query is refused with, by the tests of its written form.
 use Rattle.std.specs.Prelude.{MatchBool}
 use Rattle.std.specs.Bool.{if◌then◌else◌}
-use Rattle.std.proofs.Common.{◌≡◌, ℕ, zero, suc, Bool, true, false, not, ◌||◌, ◌⊎◌, inl, inr, List, [], ◌∷◌, map, Option, Some, None, bytes_eq, codes, refl, sym, ◌∙◌, ap, subst}
+use Rattle.std.proofs.Common.{◌≡◌, ℕ, suc, Bool, true, false, not, ◌||◌, ◌⊎◌, inl, inr, List, [], ◌∷◌, map, Option, Some, None, bytes_eq, codes, refl, sym, ◌∙◌, ap, subst}
 use Rattle.std.specs.List.{list_any}
 use Rattle.cb_model.specs.Text.{Text}
 use Rattle.cb_model.specs.Grammar.{Form, Forms, Variable, Integer, Name, Closed, Open, Not, And, Xor, Or, Last, More, FormGoal, ACall, AnEqual}
@@ -16,7 +16,7 @@ count_apart Last k = refl
 count_apart (More f fs) k = ap suc (count_apart fs (apart f k).1)
 
 -- a test that no variable passes or fails by its name
-variable_apart : {A : Type 0} (q : Form → A) (a : A) → ((x : Text) → q (Variable x) ≡ a) → (x : Text) (k : ℕ) → q (apart (Variable x) k).0 ≡ q (Variable x)
+pub variable_apart : {A : Type 0} (q : Form → A) (a : A) → ((x : Text) → q (Variable x) ≡ a) → (x : Text) (k : ℕ) → q (apart (Variable x) k).0 ≡ q (Variable x)
 variable_apart q a e x k = step (bytes_eq x (codes "_")) ∙ sym (e x)
   where
     step : (b : Bool) → q (if◌then◌else◌ {A = Form × ℕ} b (Variable (own_name k), suc k) (Variable x, k)).0 ≡ a

@@ -2,7 +2,7 @@
 use Rattle.std.specs.Prelude.{◌≡◌, ℕ, ◌⊎◌, List, Option, Some, None}
 use Rattle.cb_model.specs.Text.{Text}
 use Rattle.cb_model.specs.Grammar.{FormClause}
-use Rattle.cb_model.specs.Directives.{Sign, Declared, heads, directives, Refusal, SortClash, Unknown, Twice}
+use Rattle.cb_model.specs.Directives.{Sign, Declared, heads, directives, SortClash, Unknown, Twice}
 use Rattle.cb_model.specs.Sorts.{Body}
 use Rattle.cb_model.specs.Loading.{module_names, BodyRefusal, RulesRefusal}
 use Rattle.cb_directives.specs.Refusals.{Tells}

@@ -1,8 +1,8 @@
 -- Names put behind others, term after term.
 use Rattle.std.specs.Prelude.{OnOk}
-use Rattle.std.proofs.Common.{◌≡◌, ℕ, zero, suc, ◌+◌, ◌<◌, ◌≤◌, Bool, true, false, not, ◌||◌, ◌&&◌, List, [], ◌∷◌, ◌++◌, map, drop, length, get_or, Option, Some, None, Result, Ok, Err, bytes_eq, nat_eq, refl, sym, ◌∙◌, ap, subst, arith, add-one, drop-cons, Bor}
+use Rattle.std.proofs.Common.{◌≡◌, ℕ, suc, ◌+◌, ◌<◌, Bool, true, false, ◌||◌, ◌&&◌, List, [], ◌∷◌, ◌++◌, map, drop, length, get_or, Some, Result, Ok, Err, bytes_eq, nat_eq, refl, sym, ◌∙◌, ap, arith, add-one, drop-cons, Bor}
 use Rattle.std.specs.Bool.{if◌then◌else◌}
-use Rattle.std.specs.List.{list_any, list_all}
+use Rattle.std.specs.List.{list_all}
 use Rattle.std.proofs.lemmas.List.{append-nil, append_assoc}
 use Rattle.std.proofs.lemmas.Slice.Eq.{bytes_eq-Decides}
 use Rattle.std.proofs.lemmas.Bool.Decides.{nat_tests}
@@ -15,17 +15,16 @@ use Rattle.cb_model.specs.declared.RawClause.{RawClause}
 use Rattle.cb_model.specs.declared.RawClause.TheVariants as raw_clause
 use Rattle.cb_model.specs.Grammar.{Form, Forms, Variable, Integer, Name, Closed, Open, Not, And, Xor, Or, Last, More, FormGoal, ACall, AnEqual, FormClause, Directive, Rule}
 use Rattle.cb_model.specs.Forms.{form_of, forms_of, goal_form, clause_form}
-use Rattle.cb_model.specs.Written.{is_name}
-use Rattle.cb_model.specs.Directives.{Sign, same_sign, has_sign, count_of}
+use Rattle.cb_model.specs.Directives.{Sign, same_sign, has_sign}
 use Rattle.cb_model.specs.Loading.{is_fact, signs_of, signs_in, goals_signs, clauses_signs}
-use Rattle.cb_laws.proofs.FormValues.{form_not, form_and, form_xor, form_or, form_variable, form_integer, form_name, form_closed, form_open}
-use Rattle.cb_directives.proofs.Reading.{count_forms, drop_past}
+use Rattle.cb_laws.proofs.FormValues.{form_name, form_open}
+use Rattle.cb_directives.proofs.Reading.{count_forms}
 use Rattle.cb_names.specs.Keys.{add_sign}
 use Rattle.cb_signs.specs.Wanted.{add_signs, Adds, argument_signs, directive_signs, named_signs}
 
 -- ---- one name
 
-has_append : (xs ys : List Sign) (a : Sign) → has_sign (xs ++ ys) a ≡ (has_sign xs a || has_sign ys a)
+pub has_append : (xs ys : List Sign) (a : Sign) → has_sign (xs ++ ys) a ≡ (has_sign xs a || has_sign ys a)
 has_append [] ys a = refl
 has_append (x ∷ xs) ys a = step (same_sign a x) (has_append xs ys a)
   where

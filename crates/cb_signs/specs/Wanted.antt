@@ -1,6 +1,6 @@
 -- The names that terms, goals and clauses have, put behind those before.
 use Rattle.std.specs.Prelude.{◌≡◌, if◌then◌else◌, List, [], ◌∷◌, ◌++◌}
-use Rattle.cb_model.specs.Grammar.{Form, Forms, Variable, Integer, Name, Closed, Open, Not, And, Xor, Or, Last, More, FormClause, Directive, Rule}
+use Rattle.cb_model.specs.Grammar.{Forms, Name, Last, More, FormClause, Directive, Rule}
 use Rattle.cb_model.specs.Directives.{Sign, count_of}
 use Rattle.cb_model.specs.Loading.{is_fact, signs_of, goals_signs}
 use Rattle.cb_names.specs.Keys.{add_sign}

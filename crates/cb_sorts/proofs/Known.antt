@@ -2,7 +2,7 @@
 use Rattle.std.specs.Prelude.{All, unwrap_or}
 use Rattle.std.specs.Bool.{if◌then◌else◌}
 use Rattle.std.proofs.Common.{◌≡◌, ℕ, zero, suc, ◌+◌, ◌<◌, ◌≤◌, Bool, true, false, cond, ◌&&◌, ◌||◌, List, [], ◌∷◌, ◌++◌, length, position, Option, Some, None, refl, sym, ◌∙◌, ap, subst, arith}
-use Rattle.std.specs.List.{list_all}
+use Rattle.std.specs.List.{list_any, list_all}
 use Rattle.std.proofs.lemmas.List.{append_assoc}
 use Rattle.std.proofs.lemmas.Bool.Decides.{nat_tests}
 use Rattle.cb_model.specs.Text.{Text}
@@ -33,11 +33,21 @@ number_below (x ∷ xs) a h =
     step false (Some m) e g k =
         let low : m < length xs = subst (λ (r : Option ℕ). unwrap_or r 0 < length xs) e (k g) in omega arith
 
-and_left : (a b : Bool) → (a && b) ≡ true → a ≡ true
+-- its place stays when others stand behind
+pub place_within : {X : Type 0} (p : X → Bool) (xs ys : List X) → list_any p xs ≡ true → position p xs ≡ position p (xs ++ ys)
+place_within p [] ys h = absurd (cc)
+place_within p (x ∷ xs) ys h = position-cons p x xs ∙ step (p x) h (place_within p xs ys) ∙ sym (position-cons p x (xs ++ ys))
+  where
+    step : (b : Bool) → (b || list_any p xs) ≡ true → (list_any p xs ≡ true → position p xs ≡ position p (xs ++ ys)) →
+        cond b (Some 0) (behind (position p xs)) ≡ cond b (Some 0) (behind (position p (xs ++ ys)))
+    step true g k = refl
+    step false g k = ap (λ (o : Option ℕ). behind o) (k g)
+
+pub and_left : (a b : Bool) → (a && b) ≡ true → a ≡ true
 and_left true b h = refl
 and_left false b h = absurd (cc)
 
-and_right : (a b : Bool) → (a && b) ≡ true → b ≡ true
+pub and_right : (a b : Bool) → (a && b) ≡ true → b ≡ true
 and_right true b h = h
 and_right false b h = absurd (cc)
 
@@ -50,13 +60,13 @@ module _ (p : Sign → Bool) where
       step true h = h
       step false h = refl
 
-  all_left : (xs ys : List Sign) → list_all p (xs ++ ys) ≡ true → list_all p xs ≡ true
+  pub all_left : (xs ys : List Sign) → list_all p (xs ++ ys) ≡ true → list_all p xs ≡ true
   all_left xs ys h = and_left (list_all p xs) (list_all p ys) (sym (all-append xs ys) ∙ h)
 
-  all_right : (xs ys : List Sign) → list_all p (xs ++ ys) ≡ true → list_all p ys ≡ true
+  pub all_right : (xs ys : List Sign) → list_all p (xs ++ ys) ≡ true → list_all p ys ≡ true
   all_right xs ys h = and_right (list_all p xs) (list_all p ys) (sym (all-append xs ys) ∙ h)
 
-  head_there : (f : Form) → is_name f ≡ true → list_all p (signs_of f) ≡ true → p (head_sign f) ≡ true
+  pub head_there : (f : Form) → is_name f ≡ true → list_all p (signs_of f) ≡ true → p (head_sign f) ≡ true
   head_there (Variable x) n h = absurd (cc)
   head_there (Integer z) n h = absurd (cc)
   head_there (Name x fs) n h = and_left (p (x, count_of fs)) _ h
@@ -67,13 +77,13 @@ module _ (p : Sign → Bool) where
   head_there (Xor fs) n h = absurd (cc)
   head_there (Or fs) n h = absurd (cc)
 
-  rule_signs : (n : ℕ) (f : Form) (b : Bool) (gs : List FormGoal) (cs : List FormClause) → is_fact (Rule n f b gs) ≡ false → list_all p (clauses_signs (Rule n f b gs ∷ cs)) ≡ true →
+  pub rule_signs : (n : ℕ) (f : Form) (b : Bool) (gs : List FormGoal) (cs : List FormClause) → is_fact (Rule n f b gs) ≡ false → list_all p (clauses_signs (Rule n f b gs ∷ cs)) ≡ true →
       list_all p (signs_of f ++ (goals_signs gs ++ clauses_signs cs)) ≡ true
   rule_signs n f b gs cs e h =
       ap (list_all p) (sym (append_assoc (signs_of f) (goals_signs gs) (clauses_signs cs)))
       ∙ sym (ap (λ (o : Bool). list_all p (if o then clauses_signs cs else (signs_of f ++ goals_signs gs ++ clauses_signs cs))) e) ∙ h
 
-  fact_signs : (c : FormClause) (cs : List FormClause) → is_fact c ≡ true → list_all p (clauses_signs (c ∷ cs)) ≡ true → list_all p (clauses_signs cs) ≡ true
+  pub fact_signs : (c : FormClause) (cs : List FormClause) → is_fact c ≡ true → list_all p (clauses_signs (c ∷ cs)) ≡ true → list_all p (clauses_signs cs) ≡ true
   fact_signs (Directive n x fs) cs e h = absurd (cc)
   fact_signs (Rule n f b gs) cs e h = sym (ap (λ (o : Bool). list_all p (if o then clauses_signs cs else (signs_of f ++ goals_signs gs ++ clauses_signs cs))) e) ∙ h
 

@@ -1,3 +1,5 @@
 pub mod Known
 pub mod Queries
 pub mod Printing
+pub mod Extended
+pub mod OverFile

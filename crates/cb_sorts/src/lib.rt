@@ -1,6 +1,8 @@
 //! Programs: the rules of a file with the sorts of their variables, and queries over them.
 #![tactic(auto)]
 
+ghost use Rattle.cb_sorts.specs.OverFile.{QueriesOverFile};
+
 mod asking;
 mod chained;
 mod loading;
@@ -13,3 +15,9 @@ pub use cb_directives::LoadError;
 pub use loading::load;
 pub use program::Program;
 pub use query::Query;
+
+/// What a query asks of the program of an accepted file is a query over that file: its names stand behind those of the
+/// file, and the file's clauses stay as they were.
+pub fn queries_over_file()
+    ensures { QueriesOverFile }
+{}

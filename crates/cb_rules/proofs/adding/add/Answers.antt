@@ -1,12 +1,8 @@
-use Rattle.std.specs.Prelude.{MatchResult}
-use Rattle.std.proofs.Common.{◌∷◌, List, map, ap, refl, sym, subst, ◌∙◌}
+use Rattle.std.proofs.Common.{List, map, ap, sym, ◌∙◌}
 use Rattle.std.proofs.lemmas.Result.{MatchResult-weaker}
-use Rattle.cb_model.specs.declared.RawClause.{RawClause}
 use Rattle.cb_model.specs.declared.RawGoal.{RawGoal}
-use Rattle.cb_model.specs.Grammar.{FormClause, Rule}
-use Rattle.cb_model.specs.Forms.{form_of, forms_of, goal_form, clause_form}
-use Rattle.cb_rules.specs.Refused.{RefusesRules}
-use Rattle.cb_rules.specs.Added.{Adds}
+use Rattle.cb_model.specs.Grammar.{Rule}
+use Rattle.cb_model.specs.Forms.{form_of, goal_form, clause_form}
 use Rattle.cb_rules.proofs.InOrder.{adds_fact, adds_directive, adds_rule, refuses_rule}
 use Rattle.cb_rules.proofs.adding.add.Goals as goal
 

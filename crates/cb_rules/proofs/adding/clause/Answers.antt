@@ -1,4 +1,4 @@
-use Rattle.std.proofs.Common.{map, refl, ◌∙◌}
+use Rattle.std.proofs.Common.{map, ◌∙◌}
 use Rattle.cb_model.specs.Forms.{form_of, goal_form}
 use Rattle.cb_model.specs.Sorts.{apart}
 use Rattle.cb_rules.proofs.Building.{length_body, clause_is}

@@ -1,4 +1,4 @@
-use Rattle.std.proofs.Common.{◌+◌, ◌∷◌, List, map, drop, ap, refl}
+use Rattle.std.proofs.Common.{◌+◌, List, map, drop, ap}
 use Rattle.std.proofs.lemmas.Result.{err_from_is_err_and}
 use Rattle.cb_model.specs.declared.RawClause.{RawClause}
 use Rattle.cb_model.specs.Forms.{clause_form}

@@ -1,4 +1,4 @@
-use Rattle.std.proofs.Common.{◌≡◌, true, List, Option, map, drop, length}
+use Rattle.std.proofs.Common.{◌≡◌, true, List, Option, map, drop}
 use Rattle.std.specs.List.{list_all}
 use Rattle.cb_model.specs.Text.{Text}
 use Rattle.cb_model.specs.Written.{goal_written}

@@ -1,4 +1,4 @@
-use Rattle.cb_signs.proofs.Adding.{adds_fact, adds_rule, adds_directive}
+use Rattle.cb_signs.proofs.Adding.{adds_fact, adds_rule}
 use Rattle.cb_signs.proofs.clauses.add_clause.Goals as goal
 
 pub returns-then-is_fact : goal.returns-then-is_fact

@@ -1,8 +1,8 @@
-use Rattle.std.proofs.Common.{◌≡◌, ◌++◌, true, [], List, map, sym, subst, ap, ◌∙◌}
+use Rattle.std.proofs.Common.{◌≡◌, ◌++◌, true, List, map, sym, subst, ap, ◌∙◌}
 use Rattle.std.specs.List.{list_all}
 use Rattle.cb_model.specs.Forms.{clause_form}
 use Rattle.cb_model.specs.Directives.{Sign, has_sign}
-use Rattle.cb_signs.specs.Wanted.{add_signs, named_signs}
+use Rattle.cb_signs.specs.Wanted.{named_signs}
 use Rattle.cb_signs.proofs.Adding.{all_there, wanted_named, directive_named}
 use Rattle.cb_signs.proofs.clauses.clause_names.Goals as goal
 

@@ -1,4 +1,4 @@
-use Rattle.std.proofs.Common.{List, ◌+◌, ◌∙◌, refl, sym, ap, map, drop}
+use Rattle.std.proofs.Common.{List, ◌+◌, ◌∙◌, ap, map, drop}
 use Rattle.cb_model.specs.declared.RawTerm.{RawTerm}
 use Rattle.cb_model.specs.Forms.{form_of, forms_of}
 use Rattle.cb_model.specs.Loading.{signs_of, signs_in}

@@ -1,4 +1,4 @@
-use Rattle.cb_signs.proofs.Adding.{adds_call, adds_equal}
+use Rattle.cb_signs.proofs.Adding.{adds_equal}
 use Rattle.cb_signs.proofs.terms.add_goal.Goals as goal
 
 pub returns-in_ok-add_term-in-Equal : goal.returns-in_ok-add_term-in-Equal
