@@ -1,5 +1,5 @@
-mod Runs
+pub mod Runs
 mod Shapes
-mod Lines
+pub mod Lines
 mod Scope
 mod Goals

@@ -1,2 +1,6 @@
 mod Parametric
 mod Texts
+mod Printed
+mod Cases
+mod Items
+mod Shown

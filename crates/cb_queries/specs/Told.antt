@@ -1,5 +1,5 @@
 -- What a query of Boolean equations prints.
-use Rattle.std.specs.Prelude.{◌≡◌, ℕ, ◌+◌, ◌-◌, ◌^◌, ◌≤◌, Bool, true, false, List, [], ◌∷◌, map, length, codes}
+use Rattle.std.specs.Prelude.{◌≡◌, ℕ, ◌+◌, ◌-◌, ◌^◌, ◌≤◌, Bool, true, List, [], ◌∷◌, length, codes}
 use Rattle.cb_model.specs.Text.{Text, lines_text}
 use Rattle.cb_model.specs.Commands.{Nodes, Max, Only, IsNumber}
 use Rattle.cb_model.specs.Program.{Program, bools}
