@@ -17,6 +17,7 @@ use Rattle.cb_model.specs.Loading.{BodyRefusal, goal_unknown, query_body, module
 use Rattle.cb_model.specs.Program.{Program}
 use Rattle.cb_model.specs.Derivation.{Query}
 use Rattle.cb_model.specs.Line.{Names}
+use Rattle.cb_model.specs.Output as model
 use Rattle.cb_model.specs.Output.{Loaded, IsQuery, QueriesRefusal, passes}
 use Rattle.cb_laws.specs.Laws.{Equal}
 use Rattle.cb_equations.specs.Scope.{AreEquations, EquationsRead, IsBoolean, IsBooleanEquation, Reads}
@@ -123,11 +124,10 @@ pub can-tell : (s : Source) (ones : List Asked) → Each (CanBeTold s) ones → 
 can-tell s [] c e = tt
 can-tell s (a ∷ ones) c e = (c.0 e.0, can-tell s ones c.1 e.1)
 
--- ---- the asked queries, one after another
-
-pub ask-refusal : (cs : List FormClause) (s : Source) (q : FormQuery) (qs : List FormQuery) (a : Asked) (r : Option (Refusal × ℕ)) → Asks s.declared (heads cs) s.names (module_names cs) q.goals a →
-    QueriesRefusal (without_circuits cs s.declared) qs r → QueriesRefusal (without_circuits cs s.declared) (q ∷ qs) r
-ask-refusal cs s q qs a r h k = passes h.accepted k
+-- none of them is refused
+pub all-accepted : (cs : List FormClause) (s : Source) (qs : List FormQuery) (ones : List Asked) → AllAsk cs s qs ones → QueriesRefusal (without_circuits cs s.declared) qs None
+all-accepted cs s [] [] none_asked = model.none
+all-accepted cs s (q ∷ qs) (a ∷ ones) (more_asked h hs) = passes h.accepted (all-accepted cs s qs ones hs)
 
 -- ---- the definitions of what a query says
 
