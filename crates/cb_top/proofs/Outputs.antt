@@ -133,7 +133,7 @@ run-ends : (file : Text) (cs : List FormClause) (resolutions : ℕ) (nodes : Nod
     TaskEnds (Running resolutions nodes) o
 run-ends file cs resolutions nodes input lines o (runs.with_facts a h) = refused-ends (Running resolutions nodes) unbuilt lines o (λ (p : 99 ≡ 19). omega arith) h
 run-ends file cs resolutions nodes input lines o (asked l i (runs.refused r a h)) = refused-ends (Running resolutions nodes) r lines o (input-number l input r a) h
-run-ends file cs resolutions nodes input lines o (asked l i (not_boolean qs q a k b h)) = refused-ends (Running resolutions nodes) unbuilt lines o (λ (p : 99 ≡ 19). omega arith) h
+run-ends file cs resolutions nodes input lines o (asked l i (not_boolean qs a k h)) = refused-ends (Running resolutions nodes) unbuilt lines o (λ (p : 99 ≡ 19). omega arith) h
 run-ends file cs resolutions nodes input lines o (asked l i (ran qs stop a b h e)) = record {
   ends = subst IsDecided (sym e) (decided stop);
   other = λ p. other stop (sym e ∙ p);

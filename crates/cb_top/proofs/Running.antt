@@ -38,7 +38,7 @@ use Rattle.cb_sorts.specs.Asked.{Asked}
 use Rattle.cb_top.specs.declared.refusals.Whose.TheVariants as whose
 use Rattle.cb_top.specs.Refusals.{read_refused, load_refused, placed_in}
 use Rattle.cb_top.specs.Answers as fin
-use Rattle.cb_top.specs.Answers.{Finishes, without_circuits}
+use Rattle.cb_top.specs.Answers.{Finishes, IsSomeRefusal, without_circuits}
 use Rattle.cb_top.specs.Built.{FileRefused, IsRead, AreAccepted, Running, CommandSays, Output, OutputBegins, TakesBy, file_bytes, bytes_or}
 use Rattle.cb_top.specs.Built as built
 use Rattle.cb_top.specs.Run.{Holds, IsAccepted, AsksBooleans, Asking}
@@ -47,7 +47,7 @@ use Rattle.cb_top.specs.Running.{Refusing, RefusingSome, line, no_line, Writes, 
 use Rattle.cb_top.specs.Running as ran
 use Rattle.cb_top.specs.Top.{Appends, Prints, IsDecided, IsRun, MayStop}
 use Rattle.cb_top.proofs.Counts.{read_none}
-use Rattle.cb_top.proofs.Deciding.{in_file}
+use Rattle.cb_top.proofs.Deciding.{in_file, some_refusal}
 use Rattle.cb_top.proofs.Outputs.{prefix-of, appends-whole, says-outcome, some-none, told_or, nothing-prints}
 use Rattle.cb_top.proofs.Telling.{equations-of, booleans-of, all-tell, all-begin}
 use Rattle.cb_top.proofs.Once.{refused-holds-not, facts-hold-not}
@@ -65,6 +65,15 @@ map-writes f g (whole t h w) = whole t (f t _ h) w
 map-writes f g (broken t h e r w) = broken t (g t h) e r w
 map-writes f g (ran.wanting t h e w) = ran.wanting t (g t h) e w
 
+-- the line of a refusal that is there
+pub refused-line : {before after : Option Text} {faults now : ℕ} {result : Outcome} (q : Option Refused) (text bytes : Text) (wanted : Outcome) → IsSomeRefusal q text wanted → bytes ≡ text →
+    Finishes before after faults now bytes wanted result → RefusingSome q before after faults now result
+refused-line {before} {after} {faults} {now} {result} q text bytes wanted h e f =
+    let p = some_refusal q text wanted h in
+    line p.0 p.1
+    (subst (λ o. Finishes before after faults now (lines_text (refusal_line p.0 ∷ [])) o result) p.2.outcome
+    (subst (λ t. Finishes before after faults now t wanted result) (e ∙ p.2.line) f))
+
 -- what was written where the telling broke off
 pub breaks-writes : {W : Text → Outcome → Type 0} {B : Text → Type 0} {before after : Option Text} {faults now : ℕ} {result : Outcome} → BreaksAfter B before after faults now result →
     Writes W B before after faults now result
@@ -75,6 +84,22 @@ breaks-writes {W} {B} {before} {after} {faults} {now} {result} b = by_cause b.ca
     by_cause (inr e) = broken b.text b.beginning e.0 e.1 b.wrote
 
 -- ---- over an input
+
+-- the refusals of an input, with `query` before their places
+unread-input : (l : Loaded) (input : Text) (e : ReadError) (r : Refused) → length input ≤ 1048576 → IsRefused ReadsQuery input e → Some r ≡ read_refused e → InputRefused l input (record r { place = codes "query " ++ r.place })
+unread-input l input (error.Lex f) r short h t = model.unread (Lexed (fault_of f)) short h (sym t)
+unread-input l input (error.Syntax n) r short h t = model.unread (Syntax n) short h (sym t)
+unread-input l input (error.Unfinished n) r short h t = model.unread (Unfinished n) short h (sym t)
+unread-input l input (error.Deep n) r short h t = model.unread (Deep n) short h (sym t)
+unread-input l input error.Memory r short h t = absurd (some-none r t)
+
+unsorted-input : (l : Loaded) (input : Text) (qs : List FormQuery) (e : LoadError) (r : Refused) → length input ≤ 1048576 → IsReading ReadsQuery input (Whole qs) → RefusesQueries l qs e → Some r ≡ load_refused e →
+    InputRefused l input (record r { place = codes "query " ++ r.place })
+unsorted-input l input qs (fault.Directive n) r short i h t = absurd h
+unsorted-input l input qs (fault.SortClash n) r short i h t = model.sorts qs (SortClash, n) short i h (same_Some r (sort_refused (SortClash, n)) t)
+unsorted-input l input qs (fault.Unknown n) r short i h t = model.sorts qs (Unknown, n) short i h (same_Some r (sort_refused (Unknown, n)) t)
+unsorted-input l input qs (fault.Twice n) r short i h t = model.sorts qs (dir.Twice, n) short i h (same_Some r (sort_refused (dir.Twice, n)) t)
+unsorted-input l input qs fault.Memory r short i h t = absurd (some-none r t)
 
 module _ {l : Loaded} {resolutions : ℕ} {nodes : Nodes} {input : Text} {before after : Option Text} {faults now : ℕ} {result : Outcome} where
   -- what is decided is written
@@ -92,32 +117,17 @@ module _ {l : Loaded} {resolutions : ℕ} {nodes : Nodes} {input : Text} {before
   placed-writes (Some q) f (line r e h) = refused-writes r (subst (InputRefused l input) (sym (same_Some r _ e)) (f q refl)) h
   placed-writes q f (no_line e w) = ran.wanting [] (nothing_yet refl) e w
 
-  unread-input : (e : ReadError) (r : Refused) → length input ≤ 1048576 → IsRefused ReadsQuery input e → Some r ≡ read_refused e → InputRefused l input (record r { place = codes "query " ++ r.place })
-  unread-input (error.Lex f) r short h t = model.unread (Lexed (fault_of f)) short h (sym t)
-  unread-input (error.Syntax n) r short h t = model.unread (Syntax n) short h (sym t)
-  unread-input (error.Unfinished n) r short h t = model.unread (Unfinished n) short h (sym t)
-  unread-input (error.Deep n) r short h t = model.unread (Deep n) short h (sym t)
-  unread-input error.Memory r short h t = absurd (some-none r t)
-
-  unsorted-input : (qs : List FormQuery) (e : LoadError) (r : Refused) → length input ≤ 1048576 → IsReading ReadsQuery input (Whole qs) → RefusesQueries l qs e → Some r ≡ load_refused e →
-      InputRefused l input (record r { place = codes "query " ++ r.place })
-  unsorted-input qs (fault.Directive n) r short i h t = absurd h
-  unsorted-input qs (fault.SortClash n) r short i h t = model.sorts qs (SortClash, n) short i h (same_Some r (sort_refused (SortClash, n)) t)
-  unsorted-input qs (fault.Unknown n) r short i h t = model.sorts qs (Unknown, n) short i h (same_Some r (sort_refused (Unknown, n)) t)
-  unsorted-input qs (fault.Twice n) r short i h t = model.sorts qs (dir.Twice, n) short i h (same_Some r (sort_refused (dir.Twice, n)) t)
-  unsorted-input qs fault.Memory r short i h t = absurd (some-none r t)
-
   -- where the input isn't read
   pub writes-unread : (e : ReadError) (q : Option Refused) → length input ≤ 1048576 → IsRefused ReadsQuery input e → q ≡ placed_in whose.Query (read_refused e) → RefusingSome q before after faults now result →
       InputWrites l resolutions nodes input before after faults now result
   writes-unread e q short h t k =
-      placed-writes (read_refused e) (λ r p. unread-input e r short h p) (subst (λ x. RefusingSome x before after faults now result) t k)
+      placed-writes (read_refused e) (λ r p. unread-input l input e r short h p) (subst (λ x. RefusingSome x before after faults now result) t k)
 
   -- where a query is refused
   pub writes-unsorted : (qs : List FormQuery) (e : LoadError) (q : Option Refused) → length input ≤ 1048576 → IsReading ReadsQuery input (Whole qs) → RefusesQueries l qs e →
       q ≡ placed_in whose.Query (load_refused e) → RefusingSome q before after faults now result → InputWrites l resolutions nodes input before after faults now result
   writes-unsorted qs e q short i h t k =
-      placed-writes (load_refused e) (λ r p. unsorted-input qs e r short i h p) (subst (λ x. RefusingSome x before after faults now result) t k)
+      placed-writes (load_refused e) (λ r p. unsorted-input l input qs e r short i h p) (subst (λ x. RefusingSome x before after faults now result) t k)
 
   -- where the input is too long
   pub writes-long : 1048576 < length input → Refusing (record { number = 20; place = []; text = codes "input too long" }) before after faults now result →

@@ -175,23 +175,28 @@ fn over_asked<O: Sink>(
     requires { Each (CanBeTold program.now) queries.now }
     ensures { AskedRun program.now (nodes_view nodes) queries.now (O.written out.old) (O.written out.new) (O.faults out.old) (O.faults out.new) result }
 {
-    if !are_boolean(queries) {
-        return finish(out, lines::UNBUILT, Outcome::Refused(99));
+    if are_boolean(queries) {
+        return match tell_all(alloc, program, queries, nodes, out) {
+            Ok(true) => Outcome::Stopped,
+            Ok(false) => Outcome::Done,
+            Err(outcome) => outcome,
+        };
     }
-    match tell_all(alloc, program, queries, nodes, out) {
-        Ok(true) => Outcome::Stopped,
-        Ok(false) => Outcome::Done,
-        Err(outcome) => outcome,
-    }
+    finish(out, lines::UNBUILT, Outcome::Refused(99))
+}
+
+// Whether a query is of Boolean equations.
+fn is_boolean(query: &Query<'_>) -> bool
+    ensures { IsTrue result ↔ IsOfEquations query.now }
+{
+    are_equations(query.goals(), query.sorts())
 }
 
 // Whether each query is of Boolean equations.
 fn are_boolean(queries: &[Query<'_>]) -> bool
     ensures { IsTrue result ↔ Each IsOfEquations queries.now }
 {
-    queries
-        .iter()
-        .all(|query| are_equations(query.goals(), query.sorts()))
+    queries.iter().all(|query| is_boolean(query))
 }
 
 // Tells each query alone and writes its text as it is made; whether a last line of one is a stop line.

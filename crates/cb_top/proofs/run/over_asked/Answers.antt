@@ -8,8 +8,8 @@ use Rattle.cb_top.proofs.run.over_asked.Goals as goal
 pub tell_all-requires : goal.tell_all-requires
 tell_all-requires g c = can-tell c.args.program.now c.args.queries.now c.requires (c.if-are_boolean.ensures.0 refl)
 
-pub returns-else-are_boolean : goal.returns-else-are_boolean
-returns-else-are_boolean g c = not_boolean (λ e. false≢true (c.if-are_boolean.ensures.1 e)) c.finish.ensures
+pub returns : goal.returns
+returns g c = not_boolean (λ e. false≢true (c.if-are_boolean.ensures.1 e)) c.finish.ensures
 
 pub returns-in-Ok-true : goal.returns-in-Ok-true
 returns-in-Ok-true g c = let t = c.in-Ok-true.ensures in told (c.if-are_boolean.ensures.0 refl) (whole t.0 (_, (t.1.0, refl)) t.1.1)

@@ -19,5 +19,5 @@ returns-in-Long g c = λ r.
 pub returns-in-Failed : goal.returns-in-Failed
 returns-in-Failed g c = λ r. file_failed refl (c.in-Failed.ensures.failed refl) (Wrote-none _)
 
-pub returns-in-Memory : goal.returns-in-Memory
-returns-in-Memory g c = λ r. file_wanting refl (Wrote-none _)
+pub returns : goal.returns
+returns g c = λ r. file_wanting refl (Wrote-none _)

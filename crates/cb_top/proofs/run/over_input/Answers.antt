@@ -5,8 +5,8 @@ use Rattle.cb_model.specs.Grammar.{ReadsQuery, Whole, IsReading}
 use Rattle.cb_top.proofs.Running.{writes-unread, queries-few}
 use Rattle.cb_top.proofs.run.over_input.Goals as goal
 
-pub over_queries-requires-written : goal.over_queries-requires-written
-over_queries-requires-written g c = queries-few _ c.in-Ok.queries.items c.as_slice.result.now c.as_slice.ensures.value c.requires.short c.in-Ok.ensures.written
+pub over_queries-requires-clause-written : goal.over_queries-requires-clause-written
+over_queries-requires-clause-written g c = queries-few _ c.in-Ok.queries.items c.as_slice.result.now c.as_slice.ensures.value c.requires.short c.in-Ok.ensures.written
 
 pub returns-in-Ok : goal.returns-in-Ok
 returns-in-Ok g c = λ cs r o.

@@ -16,5 +16,5 @@ returns-in-Long g c = λ cs r o.
 pub returns-in-Failed : goal.returns-in-Failed
 returns-in-Failed g c = λ cs r o. input_failed refl (c.in-Failed.ensures.failed refl) (Wrote-none _)
 
-pub returns-in-Memory : goal.returns-in-Memory
-returns-in-Memory g c = λ cs r o. input_wanting refl (Wrote-none _)
+pub returns : goal.returns
+returns g c = λ cs r o. input_wanting refl (Wrote-none _)
