@@ -1,4 +1,4 @@
-use cb_host::{MemFiles, MemSink, SureSource};
+use cb_host::{MemFiles, MemSink, MemSource, Source, SureSource};
 use cb_top::chipbool;
 use std::alloc::Global;
 use std::test::Fail;
@@ -9,12 +9,15 @@ const HALF_ADDER: &str = "module(half_adder, [A,B], [S,C], [xor([A,B],[S]), and(
 const WITH_OR: &str = "module(half_adder, [A,B], [S,C], [xor([A,B],[S]), or([A,B],[C])]).\n\
     spec(half_adder, [A,B], [A # B, A * B]).\n";
 
-// The status and the text of a run whose file `F` has these bytes, over a sink that takes `step` bytes a call and
-// fails at one of them.
-fn run(
+const TWO_CONSTANTS: &[u8] = b":- constants a, b.";
+
+// The status and the text of a run whose file `F` has these bytes, over this input and a sink that takes `step` bytes a
+// call and fails at one of them.
+fn run_over<I: Source>(
     alloc: Global,
     line: &str,
     file: &[u8],
+    input: &mut I,
     step: usize,
     failing: u64,
 ) -> Result<(u8, Vec<u8>), Fail> {
@@ -25,10 +28,46 @@ fn run(
     let mut list = Vec::new(alloc);
     list.push((String::from_str(alloc, "F")?, Vec::from_slice(alloc, file)?))?;
     let mut files = MemFiles::new(list, Vec::new(alloc));
-    let mut input = SureSource::new(Vec::new(alloc));
-    let mut out = MemSink::new(alloc, 1000, step.max(1), [failing].to_vec(alloc)?)?;
-    let outcome = chipbool(alloc, words.as_slice(), &mut files, &mut input, &mut out);
+    let mut out = MemSink::new(alloc, 10000, step.max(1), [failing].to_vec(alloc)?)?;
+    let outcome = chipbool(alloc, words.as_slice(), &mut files, input, &mut out);
     Ok((outcome.status(), Vec::from_slice(alloc, out.written())?))
+}
+
+// The same over an empty input.
+fn run(
+    alloc: Global,
+    line: &str,
+    file: &[u8],
+    step: usize,
+    failing: u64,
+) -> Result<(u8, Vec<u8>), Fail> {
+    let mut input = SureSource::new(Vec::new(alloc));
+    run_over(alloc, line, file, &mut input, step, failing)
+}
+
+// The same of a run over queries.
+fn ask(
+    alloc: Global,
+    line: &str,
+    file: &[u8],
+    queries: &[u8],
+    failing: u64,
+) -> Result<(u8, Vec<u8>), Fail> {
+    let mut input = SureSource::new(Vec::from_slice(alloc, queries)?);
+    run_over(alloc, line, file, &mut input, 1, failing)
+}
+
+// The constants from `c1` on, so many, with a text between one and the next.
+fn constants(alloc: Global, count: u32, between: &str) -> Result<String, Fail> {
+    let mut text = String::new(alloc);
+    for i in 0..count {
+        if i > 0 {
+            text.push_str(between)?;
+        }
+        let name = format!(in alloc; "c{}", i + 1)?;
+        text.push_str(name.as_str())?;
+    }
+    Ok(text)
 }
 
 #[test]
@@ -112,7 +151,7 @@ fn refuses_words(rt: HostRuntime) -> Result<(), Fail> {
 fn says_what_is_not_built(rt: HostRuntime) -> Result<(), Fail> {
     for line in [
         "check F",
-        "run G 10000000 1",
+        "run F 10000000 1",
         "same G half_adder half_adder max",
         "make 64 max",
         "verify F other max",
@@ -284,6 +323,183 @@ fn leaves_a_front_of_the_line_where_the_output_fails(rt: HostRuntime) -> Result<
             failing,
         )?;
         assert_eq!(rt; text.as_slice(), &line[..k], "{k}");
+        assert_eq!(rt; status, 4, "{k}");
+    }
+    Ok(())
+}
+
+#[test]
+fn answers_boolean_queries(rt: HostRuntime) -> Result<(), Fail> {
+    let cases: [(&str, &str); 9] = [
+        ("X * a = 1.", "no\n"),
+        ("X * a = a.", "X = ~a*_1 + a\nend\n"),
+        ("X = a * Y.", "X = a*_1, Y = ~a*_2 + a*_1\nend\n"),
+        ("X + Y = a.", "X = a*_1, Y = a*~_1 + a*_1*_2\nend\n"),
+        ("X # Y = 0.", "X = _1, Y = _1\nend\n"),
+        ("~X = X. a # a = 0.", "no\nyes\nend\n"),
+        ("X = a, X = ~a.", "no\n"),
+        ("X = Y * a, Y = 1.", "X = a, Y = 1\nend\n"),
+        ("", ""),
+    ];
+    for line in ["run F 1000 max", "run F 1000 100000"] {
+        for (queries, want) in cases {
+            let (status, text) = ask(rt.alloc(), line, TWO_CONSTANTS, queries.as_bytes(), 0)?;
+            assert_eq!(rt; text.as_slice(), want.as_bytes(), "{queries}");
+            assert_eq!(rt; status, 0, "{queries}");
+        }
+    }
+    Ok(())
+}
+
+#[test]
+fn goes_on_after_a_stop_for_nodes(rt: HostRuntime) -> Result<(), Fail> {
+    let (status, text) = ask(
+        rt.alloc(),
+        "run F 1000 1",
+        TWO_CONSTANTS,
+        b"X = a * b. ~0 = 1.",
+        0,
+    )?;
+    assert_eq!(rt; text.as_slice(), b"stopped: nodes\nyes\nend\n".as_slice());
+    assert_eq!(rt; status, 3);
+    Ok(())
+}
+
+#[test]
+fn names_a_large_value(rt: HostRuntime) -> Result<(), Fail> {
+    let names = constants(rt.alloc(), 18, ", ")?;
+    let file = format!(in rt.alloc(); ":- constants {names}.")?;
+    let sum = constants(rt.alloc(), 18, " # ")?;
+    let query = format!(in rt.alloc(); "X = {sum}.")?;
+    let (status, text) = ask(
+        rt.alloc(),
+        "run F 1000 max",
+        file.as_bytes(),
+        query.as_bytes(),
+        0,
+    )?;
+    assert_eq!(rt; text.as_slice(), b"X = (large)\nend\n".as_slice());
+    assert_eq!(rt; status, 0);
+    Ok(())
+}
+
+// Y is free where the product of all constants is 0: where c1 is 0, or else c2, and so on; and 1 where it is 1.
+#[test]
+fn solves_over_forty_constants(rt: HostRuntime) -> Result<(), Fail> {
+    let names = constants(rt.alloc(), 40, ", ")?;
+    let file = format!(in rt.alloc(); ":- constants {names}.")?;
+    let product = constants(rt.alloc(), 40, "*")?;
+    let query = format!(in rt.alloc(); "X = {product}, Y * X = X.")?;
+    let mut want = format!(in rt.alloc(); "X = {product}, Y = ")?;
+    for i in 0..40u32 {
+        let before = constants(rt.alloc(), i, "*")?;
+        let star = if i > 0 { "*" } else { "" };
+        let free = format!(in rt.alloc(); "{before}{star}~c{}*_2 + ", i + 1)?;
+        want.push_str(free.as_str())?;
+    }
+    want.push_str(product.as_str())?;
+    want.push_str("\nend\n")?;
+    let (status, text) = ask(
+        rt.alloc(),
+        "run F 1000 max",
+        file.as_bytes(),
+        query.as_bytes(),
+        0,
+    )?;
+    assert_eq!(rt; text.as_slice(), want.as_bytes());
+    assert_eq!(rt; status, 0);
+    Ok(())
+}
+
+#[test]
+fn refuses_queries(rt: HostRuntime) -> Result<(), Fail> {
+    let cases: [(&[u8], &[u8]); 9] = [
+        (b"X = .", b"error: query line 1: syntax\n"),
+        (b"zap(X).", b"error: query line 1: unknown name\n"),
+        (b"a = 1.\nX = a * f.", b"error: query line 2: sort clash\n"),
+        (b"zap.\nX = a * f.", b"error: query line 1: unknown name\n"),
+        (b"zap.\nX = .", b"error: query line 2: syntax\n"),
+        (b"\nX = a", b"error: query line 2: unfinished clause\n"),
+        (b"zap. X & a.", b"error: query byte 7: unexpected byte\n"),
+        (b"a = 1. p(X).", b"error: not built yet\n"),
+        (b"a = 1. X = f.", b"error: not built yet\n"),
+    ];
+    for (queries, want) in cases {
+        let file = b":- constants a. p(0).";
+        let (status, text) = ask(rt.alloc(), "run F 1000 max", file, queries, 0)?;
+        assert_eq!(rt; text.as_slice(), want, "{}", queries.len());
+        assert_eq!(rt; status, 2, "{}", queries.len());
+    }
+    Ok(())
+}
+
+#[test]
+fn limits_the_input(rt: HostRuntime) -> Result<(), Fail> {
+    for (count, want, wanted) in [
+        (1048576, b"".as_slice(), 0),
+        (1048577, b"error: input too long\n".as_slice(), 2),
+    ] {
+        let queries = vec![in rt.alloc(); b' '; count]?;
+        let (status, text) = ask(
+            rt.alloc(),
+            "run F 1000 max",
+            TWO_CONSTANTS,
+            queries.as_slice(),
+            0,
+        )?;
+        assert_eq!(rt; text.as_slice(), want, "{count}");
+        assert_eq!(rt; status, wanted, "{count}");
+    }
+    Ok(())
+}
+
+#[test]
+fn reads_the_input_of_an_accepted_file_alone(rt: HostRuntime) -> Result<(), Fail> {
+    let cases: [(&str, &[u8], &[u8], u8); 4] = [
+        ("run F 1000 max", TWO_CONSTANTS, b"", 4),
+        (
+            "run F 1000 max",
+            b":- word(a).",
+            b"error: line 1: bad directive\n",
+            2,
+        ),
+        (
+            "run F 1000 max",
+            HALF_ADDER.as_bytes(),
+            b"error: not built yet\n",
+            2,
+        ),
+        (
+            "check F",
+            TWO_CONSTANTS,
+            b"checked: 0 clauses, 0 modules\n",
+            0,
+        ),
+    ];
+    for (line, file, want, wanted) in cases {
+        let alloc = rt.alloc();
+        let bytes = Vec::from_slice(alloc, b"a = 1.")?;
+        let mut input = MemSource::new(bytes, 1000, [1].to_vec(alloc)?);
+        let (status, text) = run_over(alloc, line, file, &mut input, 1, 0)?;
+        assert_eq!(rt; text.as_slice(), want, "{line}");
+        assert_eq!(rt; status, wanted, "{line}");
+    }
+    Ok(())
+}
+
+#[test]
+fn leaves_a_front_of_the_answers_where_the_output_fails(rt: HostRuntime) -> Result<(), Fail> {
+    let whole = b"no\nyes\nend\n";
+    for k in 0..whole.len() {
+        let failing = k as u64 + 1;
+        let (status, text) = ask(
+            rt.alloc(),
+            "run F 1000 max",
+            TWO_CONSTANTS,
+            b"~X = X. a # a = 0.",
+            failing,
+        )?;
+        assert_eq!(rt; text.as_slice(), &whole[..k], "{k}");
         assert_eq!(rt; status, 4, "{k}");
     }
     Ok(())

@@ -25,19 +25,20 @@ use Rattle.cb_model.specs.Commands.{Nodes, Max, Only}
 use Rattle.cb_model.specs.Refusals.{Refused, refusal_line, unbuilt}
 use Rattle.cb_model.specs.Verdicts.{differs_text, agrees, differs, stopped}
 use Rattle.cb_top.specs.Built as says
-use Rattle.cb_top.specs.Built.{FileRefused, unread, unsorted, ClausesRefused, directive, rule, IsRead, AreAccepted, Task, Checking, Comparing, not_first, compared, flat_room}
+use Rattle.cb_top.specs.Built.{FileRefused, unread, unsorted, ClausesRefused, directive, rule, IsRead, AreAccepted, Task, Checking, Running, Comparing, not_first, compared, flat_room}
 use Rattle.cb_model.specs.Room.{room_v, circuit_pins, instance_pins, expr_size}
 use Rattle.cb_model.specs.Output.{BelowNodes, sort_refused, IsLoaded, checked_text}
 use Rattle.std.proofs.Math.Nat.{mul-le-mul_right}
 use Rattle.cb_top.specs.declared.lines.TheConstants.{STOPPED_NODES}
-use Rattle.cb_top.specs.Words.{budget_of}
+use Rattle.cb_queries.specs.Told.{budget_of}
 use Rattle.cb_verify.specs.declared.Verdict.{Verdict}
 use Rattle.cb_verify.specs.declared.Verdict.TheVariants as verdict
 use Rattle.cb_verify.specs.Verdict.{IsRight}
 use Rattle.cb_circ.specs.declared.first.First.{First}
 use Rattle.cb_circ.specs.First.{IsFirstForm, IsNotFirstForm}
 use Rattle.cb_top.specs.Answers.{Decides, IsRefusal, IsSomeRefusal, without_circuits, with_facts, checked, Compares, TaskDecides, ClausesDecide, refused, accepted, VerdictSays, FitsPorts}
-use Rattle.cb_top.specs.Refusals.{read_refused, load_refused}
+use Rattle.cb_top.specs.Refusals.{read_refused, load_refused, placed_in}
+use Rattle.cb_top.specs.declared.refusals.Whose.TheVariants as whose
 use Rattle.cb_top.proofs.Counts.{read_none}
 
 -- what was read of clauses whose facts are in the first form
@@ -131,16 +132,17 @@ clauses_few n xs ys e h w = subst (λ l. AreClauses 4194304 (map clause_form l))
 
 -- a task over the clauses of an accepted file
 task-says : (task : Task) (file : Text) (cs : List FormClause) (d : Declared) (text : Text) (o : Outcome) → IsRead file cs → AreAccepted cs d → TaskDecides task cs text o → Decides task file text o
-task-says Checking file cs d text o i a (with_facts h p) = record { lines = refusal_line unbuilt ∷ []; says = says.accepted cs d i a (says.with_facts h (refl, p.outcome)); is = p.line }
+task-says Checking file cs d text o i a (with_facts h p) = record { lines = refusal_line unbuilt ∷ []; says = λ input. says.accepted cs d i a (says.with_facts h (refl, p.outcome)); is = p.line }
 task-says Checking file cs d text o i a (checked h t e) =
     let l = without_circuits cs d in
     let loaded : IsLoaded file l = record { short = i.short; reading = i.reading; declares = a.declares; rules = a.rules; facts = read_none cs h } in
-    record { lines = checked_text l ∷ []; says = says.accepted cs d i a (says.checked l h refl loaded refl e); is = t d }
-task-says (Comparing name nodes) file cs d text o i a k = record { lines = k.lines; says = says.accepted cs d i a k.says; is = k.is }
+    record { lines = checked_text l ∷ []; says = λ input. says.accepted cs d i a (says.checked l h refl loaded refl e); is = t d }
+task-says (Running resolutions nodes) file cs d text o i a k = absurd k
+task-says (Comparing name nodes) file cs d text o i a k = record { lines = k.lines; says = λ input. says.accepted cs d i a k.says; is = k.is }
 
 -- what is decided of the clauses is decided of the text
 decides-clauses : (task : Task) (file text : Text) (cs : List FormClause) (o : Outcome) → IsRead file cs → ClausesDecide task cs text o → Decides task file text o
-decides-clauses task file text cs o i (refused r h p) = record { lines = refusal_line r ∷ []; says = says.refused r (unsorted cs i h) (refl, p.outcome); is = p.line }
+decides-clauses task file text cs o i (refused r h p) = record { lines = refusal_line r ∷ []; says = λ input. says.refused r (unsorted cs i h) (refl, p.outcome); is = p.line }
 decides-clauses task file text cs o i (accepted d a k) = task-says task file cs d text o i a k
 
 pub decides-read : (task : Task) (file : Text) (text : Text) (o : Outcome) (xs ys : List RawClause) → length file ≤ 4194304 → ys ≡ xs → IsReading ReadsClause file (Whole (map clause_form xs)) →
@@ -148,8 +150,13 @@ pub decides-read : (task : Task) (file : Text) (text : Text) (o : Outcome) (xs y
 decides-read task file text o xs ys short e reading d =
     decides-clauses task file text (map clause_form ys) o (record { short = short; reading = subst (λ l. IsReading ReadsClause file (Whole (map clause_form l))) (sym e) reading }) d
 
+-- a refusal of the file has its place as it is
+pub in_file : (q : Option Refused) → placed_in whose.File q ≡ q
+in_file None = refl
+in_file (Some r) = refl
+
 -- what was not read is refused
-unread-refused : (file : Text) (e : ReadError) (r : Refused) → length file ≤ 4194304 → IsRefused ReadsClause file e → Some r ≡ read_refused e → FileRefused file r
+pub unread-refused : (file : Text) (e : ReadError) (r : Refused) → length file ≤ 4194304 → IsRefused ReadsClause file e → Some r ≡ read_refused e → FileRefused file r
 unread-refused file (error.Lex f) r short h t = unread (Lexed (fault_of f)) short h (sym t)
 unread-refused file (error.Syntax n) r short h t = unread (Syntax n) short h (sym t)
 unread-refused file (error.Unfinished n) r short h t = unread (Unfinished n) short h (sym t)
@@ -165,13 +172,13 @@ pub decides-unread : (task : Task) (file text : Text) (o : Outcome) (e : ReadErr
     IsSomeRefusal q text o → Decides task file text o
 decides-unread task file text o e q short h t a =
     let p = some_refusal q text o a in
-    record { lines = refusal_line p.0 ∷ []; says = says.refused p.0 (unread-refused file e p.0 short h (p.1 ∙ t)) (refl, p.2.outcome); is = p.2.line }
+    record { lines = refusal_line p.0 ∷ []; says = λ input. says.refused p.0 (unread-refused file e p.0 short h (p.1 ∙ t)) (refl, p.2.outcome); is = p.2.line }
 
 -- clauses that are not accepted are refused
 same_refused : (cs : List FormClause) (e : Refusal × ℕ) (r : Refused) → Some r ≡ Some (sort_refused e) → ClausesRefused cs (sort_refused e) → ClausesRefused cs r
 same_refused cs e r t h = let k : sort_refused e ≡ r = cc in subst (ClausesRefused cs) k h
 
-unloaded-refused : (cs : List FormClause) (e : LoadError) (r : Refused) → sorts.Refuses cs e → Some r ≡ load_refused e → ClausesRefused cs r
+pub unloaded-refused : (cs : List FormClause) (e : LoadError) (r : Refused) → sorts.Refuses cs e → Some r ≡ load_refused e → ClausesRefused cs r
 unloaded-refused cs (fault.Directive n) r (inl h) t = same_refused cs (BadDirective, n) r t (directive (BadDirective, n) h)
 unloaded-refused cs (fault.SortClash n) r (inl h) t = same_refused cs (SortClash, n) r t (directive (SortClash, n) h)
 unloaded-refused cs (fault.Unknown n) r (inl h) t = same_refused cs (Unknown, n) r t (directive (Unknown, n) h)

@@ -3,3 +3,7 @@ pub mod Inputs
 pub mod Counts
 pub mod Outputs
 pub mod Deciding
+pub mod Telling
+pub mod Once
+pub mod Running
+pub mod Steps

@@ -14,9 +14,9 @@ use Rattle.cb_model.specs.Loading.{is_fact}
 use Rattle.cb_model.specs.Facts.{no_circuits}
 use Rattle.cb_model.specs.Refusals.{Refused, refusal_line, unbuilt}
 use Rattle.cb_model.specs.Output.{Loaded, checked_text}
-use Rattle.cb_model.specs.Commands.{Nodes}
+use Rattle.cb_model.specs.Commands.{Nodes, Command, file_name}
 use Rattle.cb_model.specs.Outside.{Rose, Wrote, bytes_named}
-use Rattle.cb_top.specs.Built.{AreAccepted, ClausesRefused, VerifySays, Task, Checking, Comparing, FileSays, Output, file_bytes}
+use Rattle.cb_top.specs.Built.{AreAccepted, ClausesRefused, VerifySays, Task, Checking, Running, Comparing, FileSays, CommandSays, bytes_or}
 use Rattle.cb_top.specs.Words.{nodes_view}
 use Rattle.cb_top.specs.declared.Task as lent
 use Rattle.cb_top.specs.declared.Task.TheVariants as task
@@ -33,10 +33,10 @@ abbrev pub task_view : lent.Task → Task
 task_view task.Check = Checking
 task_view (task.Verify name nodes) = Comparing name.now (nodes_view nodes)
 
--- the text and the outcome of a task over these bytes
+-- the text and the outcome of a task over these bytes, whatever the input is
 pub record Decides (task : Task) (file : Text) (text : Text) (result : Outcome) : Type 0 where
   pub lines : List Text
-  pub says : FileSays task file lines result
+  pub says : (input : Text) → FileSays task file input lines result
   pub is : text ≡ lines_text lines
 
 -- a refusal is the text
@@ -69,9 +69,10 @@ pub record Compares (cs : List FormClause) (name : Text) (nodes : Nodes) (text :
   pub says : VerifySays cs name nodes lines result
   pub is : text ≡ lines_text lines
 
--- what a task decides of them
+-- what a task that reads no input decides of them
 abbrev pub TaskDecides : Task → List FormClause → Text → Outcome → Type 0
 TaskDecides Checking cs text result = Checks cs text result
+TaskDecides (Running resolutions nodes) cs text result = ⊥
 TaskDecides (Comparing name nodes) cs text result = Compares cs name nodes text result
 
 -- the same of all clauses
@@ -85,11 +86,13 @@ pub record FileAnswers (files : Option (List (Text × Text))) (task : Task) (fil
   pub bytes_told : (list : List (Text × Text)) → files ≡ Some list → bytes ≡ bytes_named list file
   pub decides : Decides task bytes text result
 
--- the text and the outcome for the words
-pub record Answers (files : Option (List (Text × Text))) (words : List Text) (text : Text) (result : Outcome) : Type 0 where
+-- the text and the outcome for a command that reads no input
+pub record Answers (files : Option (List (Text × Text))) (command : Option Command) (text : Text) (result : Outcome) : Type 0 where
   pub file : Text
-  pub file_told : (list : List (Text × Text)) → files ≡ Some list → file ≡ file_bytes list words
-  pub output : Output words file text result
+  pub file_told : (list : List (Text × Text)) → files ≡ Some list → file ≡ bytes_or list (file_name command)
+  pub lines : List Text
+  pub says : (input : Text) → CommandSays command file input lines result
+  pub is : text ≡ lines_text lines
 
 -- nothing was decided, for want of memory or since the file failed
 abbrev pub BreaksOff : ℕ → ℕ → Outcome → Type 0

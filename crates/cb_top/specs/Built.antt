@@ -1,6 +1,6 @@
--- What is built so far of what the program prints: `check` on files without facts of circuits, and `verify` on files
--- whose facts are in the first form.
-use Rattle.std.specs.Prelude.{◌≡◌, ℕ, ◌+◌, ◌<◌, ◌≤◌, true, false, List, [], ◌∷◌, map, sum, length, Option, Some, None, codes}
+-- What is built so far of what the program prints: `check` on files without facts of circuits, `run` on such files over
+-- queries of Boolean equations, and `verify` on files whose facts are in the first form.
+use Rattle.std.specs.Prelude.{◌≡◌, ◌⊎◌, ℕ, ◌+◌, ◌<◌, ◌≤◌, true, false, List, [], ◌∷◌, map, sum, length, Option, Some, None, codes}
 use Rattle.std.specs.List.{list_any}
 use Rattle.cb_model.specs.declared.Outcome.{Outcome}
 use Rattle.cb_model.specs.declared.Outcome.TheVariants as result
@@ -15,8 +15,9 @@ use Rattle.cb_model.specs.Refusals.{Refused, Refuses, usage, file_too_long, unbu
 use Rattle.cb_model.specs.Verdicts.{Compared}
 use Rattle.cb_model.specs.declared.Expr.{Expr}
 use Rattle.cb_model.specs.Room.{room_v, circuit_pins, instance_pins, expr_size}
-use Rattle.cb_model.specs.Output.{BelowNodes, reading_refused, sort_refused, Loaded, IsLoaded, checked_text}
+use Rattle.cb_model.specs.Output.{BelowNodes, reading_refused, sort_refused, Loaded, IsLoaded, checked_text, ReadWhole}
 use Rattle.cb_model.specs.Outside.{bytes_named}
+use Rattle.cb_top.specs.Run.{Holds, RunSays, Asking}
 
 -- the nodes with which the comparison of a flat module with expressions is always decided
 abbrev pub flat_room : Module → List Expr → ℕ
@@ -65,37 +66,41 @@ pub data VerifySays (cs : List FormClause) (name : Text) (nodes : Nodes) (lines 
 -- what is asked of a file
 pub data Task : Type 0 where
   Checking : Task
+  Running : (resolutions : ℕ) (nodes : Nodes) → Task
   Comparing : (name : Text) (nodes : Nodes) → Task
 
--- the lines and the outcome of a task over an accepted file
-abbrev pub TaskSays : Task → Text → List FormClause → List Text → Outcome → Type 0
-TaskSays Checking file cs lines outcome = CheckSays file cs lines outcome
-TaskSays (Comparing name nodes) file cs lines outcome = VerifySays cs name nodes lines outcome
+-- the lines and the outcome of a task over an accepted file and the input
+abbrev pub TaskSays : Task → Text → Text → List FormClause → List Text → Outcome → Type 0
+TaskSays Checking file input cs lines outcome = CheckSays file cs lines outcome
+TaskSays (Running resolutions nodes) file input cs lines outcome = RunSays file cs resolutions nodes input lines outcome
+TaskSays (Comparing name nodes) file input cs lines outcome = VerifySays cs name nodes lines outcome
 
 -- the same over any file
-pub data FileSays (task : Task) (file : Text) (lines : List Text) (outcome : Outcome) : Type 0 where
-  refused : (r : Refused) → FileRefused file r → Refuses r lines outcome → FileSays task file lines outcome
-  accepted : (cs : List FormClause) (d : Declared) → IsRead file cs → AreAccepted cs d → TaskSays task file cs lines outcome → FileSays task file lines outcome
+pub data FileSays (task : Task) (file input : Text) (lines : List Text) (outcome : Outcome) : Type 0 where
+  refused : (r : Refused) → FileRefused file r → Refuses r lines outcome → FileSays task file input lines outcome
+  accepted : (cs : List FormClause) (d : Declared) → IsRead file cs → AreAccepted cs d → TaskSays task file input cs lines outcome → FileSays task file input lines outcome
 
--- what a command says over the bytes of its file
-abbrev pub CommandSays : Option Command → Text → List Text → Outcome → Type 0
-CommandSays None file lines outcome = Refuses usage lines outcome
-CommandSays (Some (Check f)) file lines outcome = FileSays Checking file lines outcome
-CommandSays (Some (Verify f name nodes)) file lines outcome = FileSays (Comparing name nodes) file lines outcome
-CommandSays (Some (Run f r n)) file lines outcome = Refuses unbuilt lines outcome
-CommandSays (Some (Same f a b n)) file lines outcome = Refuses unbuilt lines outcome
-CommandSays (Some (Make b n)) file lines outcome = Refuses unbuilt lines outcome
+-- what a command says over the bytes of its file and of the input
+abbrev pub CommandSays : Option Command → Text → Text → List Text → Outcome → Type 0
+CommandSays None file input lines outcome = Refuses usage lines outcome
+CommandSays (Some (Check f)) file input lines outcome = FileSays Checking file input lines outcome
+CommandSays (Some (Run f resolutions nodes)) file input lines outcome = FileSays (Running resolutions nodes) file input lines outcome
+CommandSays (Some (Verify f name nodes)) file input lines outcome = FileSays (Comparing name nodes) file input lines outcome
+CommandSays (Some (Same f a b n)) file input lines outcome = Refuses unbuilt lines outcome
+CommandSays (Some (Make b n)) file input lines outcome = Refuses unbuilt lines outcome
 
--- the text and the outcome belong to these words and this file
-pub record Output (words : List Text) (file text : Text) (outcome : Outcome) : Type 0 where
+-- the text and the outcome belong to these words, this file and this input
+pub record Output (words : List Text) (file input text : Text) (outcome : Outcome) : Type 0 where
   pub lines : List Text
-  pub says : CommandSays (command_of words) file lines outcome
+  pub says : CommandSays (command_of words) file input lines outcome
   pub is : text ≡ lines_text lines
 
--- the text is nothing, or it begins the text of an output
-pub data OutputBegins (words : List Text) (file text : Text) : Type 0 where
-  nothing_yet : text ≡ [] → OutputBegins words file text
-  begins : (whole : Text) (outcome : Outcome) → Output words file whole outcome → IsPrefix text whole → OutputBegins words file text
+-- the text is nothing, or it begins the text of an output, or what the queries of `run` have printed so far
+pub data OutputBegins (words : List Text) (file input text : Text) : Type 0 where
+  nothing_yet : text ≡ [] → OutputBegins words file input text
+  begins : (whole : Text) (outcome : Outcome) → Output words file input whole outcome → IsPrefix text whole → OutputBegins words file input text
+  so_far : (f : Text) (resolutions : ℕ) (nodes : Nodes) → command_of words ≡ Some (Run f resolutions nodes) → Asking file input resolutions nodes text →
+      OutputBegins words file input text
 
 -- the bytes of the file that the words name
 abbrev pub bytes_or : List (Text × Text) → Option Text → Text
@@ -105,3 +110,10 @@ bytes_or files (Some x) = bytes_named files x
 -- the same by the words
 abbrev pub file_bytes : List (Text × Text) → List Text → Text
 file_bytes files words = bytes_or files (file_name (command_of words))
+
+-- what is left of the input after a run that no fault and no want of memory ended: only `run` over an accepted file
+-- without facts of circuits reads it
+abbrev pub TakesBy : Option Command → Text → Text → Option Text → Type 0
+TakesBy (Some (Run f r n)) file input after =
+    ((l : Loaded) × (Holds file l.clauses l × ReadWhole input after)) ⊎ (((l : Loaded) → Holds file l.clauses l → ⊥) × (after ≡ Some input))
+TakesBy _ file input after = after ≡ Some input

@@ -2,6 +2,8 @@ pub mod Words
 pub mod Lines
 pub mod Refusals
 pub mod Counts
+pub mod Run
 pub mod Built
 pub mod Top
 pub mod Answers
+pub mod Running

@@ -1,5 +1,5 @@
--- Refusals that name a place in the file.
-use Rattle.std.specs.Prelude.{Option, Some, None, codes}
+-- Refusals that name a place in the file or in the input.
+use Rattle.std.specs.Prelude.{Option, Some, None, [], ◌++◌, codes}
 use Rattle.cb_model.specs.Text.{Text}
 use Rattle.cb_model.specs.Refusals.{Refused, refused, at_byte, at_line}
 use Rattle.cb_model.specs.Output.{fault_refused, sort_refused}
@@ -12,6 +12,8 @@ use Rattle.cb_syntax.specs.declared.texts.ReadError.{ReadError}
 use Rattle.cb_syntax.specs.declared.texts.ReadError.TheVariants as read
 use Rattle.cb_top.specs.declared.refusals.Place.{Place}
 use Rattle.cb_top.specs.declared.refusals.Place.TheVariants.{Byte, Line}
+use Rattle.cb_top.specs.declared.refusals.Whose.{Whose}
+use Rattle.cb_top.specs.declared.refusals.Whose.TheVariants as whose
 use Rattle.cb_top.specs.declared.refusals.Refusal.{Refusal}
 
 -- a place
@@ -19,9 +21,19 @@ abbrev pub place_text : Place → Text
 place_text (Byte n) = at_byte n
 place_text (Line n) = at_line n
 
+-- what stands before the place
+abbrev pub whose_text : Whose → Text
+whose_text whose.File = []
+whose_text whose.Query = codes "query "
+
 -- a refusal, without the places of its text in memory
 abbrev pub refusal_view : Refusal → Refused
-refusal_view r = refused r.number (place_text r.place) r.text.now
+refusal_view r = refused r.number (whose_text r.whose ++ place_text r.place) r.text.now
+
+-- a refusal with its place in the file or in the input
+abbrev pub placed_in : Whose → Option Refused → Option Refused
+placed_in w None = None
+placed_in w (Some r) = Some (record r { place = whose_text w ++ r.place })
 
 -- the refusal of a text that is not read; want of memory is none
 abbrev pub read_refused : ReadError → Option Refused

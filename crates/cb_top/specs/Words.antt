@@ -1,5 +1,5 @@
 -- The words of the command line, without their places in memory.
-use Rattle.std.specs.Prelude.{ℕ, ◌+◌, ◌-◌, ◌*◌, ◌^◌, nat_le, if◌then◌else◌, [], ◌∷◌, Option, Some, None, option_and_then}
+use Rattle.std.specs.Prelude.{ℕ, ◌+◌, ◌-◌, ◌*◌, nat_le, if◌then◌else◌, [], ◌∷◌, Option, Some, None, option_and_then}
 use Rattle.cb_model.specs.Text.{Text, is_digit}
 use Rattle.cb_model.specs.Commands as spec
 use Rattle.cb_top.specs.declared.words.Nodes.{Nodes}
@@ -19,11 +19,6 @@ command_view (command.Run f r n) = spec.Run f.now r (nodes_view n)
 command_view (command.Verify f x n) = spec.Verify f.now x.now (nodes_view n)
 command_view (command.Same f x y n) = spec.Same f.now x.now y.now (nodes_view n)
 command_view (command.Make b n) = spec.Make b (nodes_view n)
-
--- the budget of a store
-abbrev pub budget_of : spec.Nodes → ℕ
-budget_of spec.Max = 2 ^ 64 - 1
-budget_of (spec.Only n) = n
 
 -- a number with one digit more, where that is within the limit
 abbrev pub digit_upto : ℕ → ℕ → ℕ → Option ℕ

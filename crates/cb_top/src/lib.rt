@@ -1,18 +1,19 @@
 //! The top call: from the words of the command line to the printed lines and the outcome.
 #![tactic(auto)]
 
-ghost use Rattle.std.specs.Prelude.{◌≡◌, ◌≢◌, ◌≤◌, [], ◌∷◌, length, map, string_bytes, None, IfOk, IfErr, IsOk, MatchResult};
+ghost use Rattle.std.specs.Prelude.{◌≡◌, ◌≤◌, [], ◌∷◌, length, map, string_bytes, None, IfOk, IfErr, IsOk, MatchResult};
 ghost use Rattle.std.specs.Option.{option_map};
 ghost use Rattle.cb_model.specs.Commands.{command_of};
 ghost use Rattle.cb_model.specs.Text.{lines_text};
 ghost use Rattle.cb_model.specs.Refusals.{refusal_line, unbuilt};
 ghost use Rattle.cb_model.specs.Outside.{Rose};
-ghost use Rattle.cb_model.specs.Top.{HasUsage, NamesNumber};
-ghost use Rattle.cb_top.specs.Top.{Prints};
+ghost use Rattle.cb_model.specs.Top.{HasUsage};
+ghost use Rattle.cb_top.specs.Top.{Prints, IsRun, MayStop};
+ghost use Rattle.cb_top.specs.Running.{RefusingSome};
 ghost use Rattle.cb_model.specs.Forms.{clause_form};
 ghost use Rattle.cb_model.specs.Written.{AreClauses};
 ghost use Rattle.cb_rules.specs.Refused.{Refuses};
-ghost use Rattle.cb_top.specs.Words.{nodes_view};
+ghost use Rattle.cb_top.specs.Words.{nodes_view, command_view};
 ghost use Rattle.cb_top.specs.Refusals.{refusal_view};
 ghost use Rattle.cb_top.specs.Answers.{line_bytes, task_view, Decides, IsSomeRefusal, IsAccepted, Checks, Compares, TaskDecides, ClausesDecide, FileAnswers, Answers, BreaksOff, Finishes, VerdictSays, FitsPorts};
 ghost use Rattle.cb_top.specs.declared.lines.TheConstants.{STOPPED_NODES};
@@ -26,13 +27,14 @@ use cb_sorts::{LoadError, load};
 use cb_syntax::read_clauses;
 use cb_verify::{Verdict, compare};
 use clauses::{have_fact, rule_count};
-use refusals::Refusal;
+use refusals::{Refusal, Whose};
 use std::alloc::{AllocError, Global};
 use words::{Command, Nodes};
 
 mod clauses;
 mod lines;
 mod refusals;
+mod run;
 mod words;
 
 /// The most bytes of a file.
@@ -52,8 +54,9 @@ struct Answer {
     outcome: Outcome,
 }
 
-/// Runs one command line: `words` are the words after the program's name. All of an answer is decided before its
-/// first byte is written, and no byte of the input is read. The prefix of a line is left where the output fails.
+/// Runs one command line: `words` are the words after the program's name. `run` writes the text of each query as it is
+/// made; all else is decided before its first byte is written. Only `run` reads the input, once its file is accepted. A
+/// front of the text is left where the output fails.
 pub fn chipbool<F: Files, I: Source, O: Sink>(
     alloc: Global,
     words: &[String],
@@ -61,17 +64,23 @@ pub fn chipbool<F: Files, I: Source, O: Sink>(
     input: &mut I,
     out: &mut O,
 ) -> Outcome
-    ensures prints { Prints (map string_bytes words.now) (F.list files.old) (O.written out.old) (O.written out.new) result }
+    ensures prints { Prints (map string_bytes words.now) (F.list files.old) (I.left input.old) (I.left input.new) (O.written out.old) (O.written out.new) result }
     ensures usage { HasUsage (map string_bytes words.now) result }
-    ensures stopped { result ≡ Outcome.Stopped → NamesNumber (command_of (map string_bytes words.now)) }
-    ensures input_unread { input.new ≡ input.old }
+    ensures stopped { result ≡ Outcome.Stopped → MayStop (command_of (map string_bytes words.now)) }
+    ensures input_unread { (IsRun (command_of (map string_bytes words.now)) → ⊥) → input.new ≡ input.old }
+    ensures input_of_run { result ≡ Outcome.Fault Side.Input → IsRun (command_of (map string_bytes words.now)) }
     ensures fault_of_file { result ≡ Outcome.Fault Side.File → Rose (F.faults files.old) (F.faults files.new) }
-    ensures no_fault_of_input { result ≢ Outcome.Fault Side.Input }
+    ensures fault_of_input { result ≡ Outcome.Fault Side.Input → Rose (I.faults input.old) (I.faults input.new) }
     ensures fault_of_output { result ≡ Outcome.Fault Side.Output → Rose (O.faults out.old) (O.faults out.new) }
 {
-    match answer_to(alloc, words, files) {
-        Ok(answer) => finish(out, answer.line.bytes(), answer.outcome),
-        Err(outcome) => outcome,
+    match words::command_in(words) {
+        Some(Command::Run { file, nodes, .. }) => {
+            run::over_file(alloc, file, nodes, files, input, out)
+        }
+        command => match answer_to(alloc, command, files) {
+            Ok(answer) => finish(out, answer.line.bytes(), answer.outcome),
+            Err(outcome) => outcome,
+        },
     }
 }
 
@@ -139,19 +148,24 @@ enum Task<'w> {
     Verify { name: &'w str, nodes: Nodes },
 }
 
-// The answer to the words, or the outcome where there is none.
-fn answer_to<F: Files>(alloc: Global, words: &[String], files: &mut F) -> Result<Answer, Outcome>
-    ensures answers { IfOk result (λ a. Answers (F.list files.old) (map string_bytes words.now) (line_bytes a.line) a.outcome) }
+// The answer to another command than `run`, or the outcome where there is none.
+fn answer_to<F: Files>(
+    alloc: Global,
+    command: Option<Command<'_>>,
+    files: &mut F,
+) -> Result<Answer, Outcome>
+    requires { IsRun (option_map command_view command) → ⊥ }
+    ensures answers { IfOk result (λ a. Answers (F.list files.old) (option_map command_view command.entry) (line_bytes a.line) a.outcome) }
     ensures breaks_off { IfErr result (BreaksOff (F.faults files.old) (F.faults files.new)) }
-    ensures usage { command_of (map string_bytes words.now) ≡ None → IsOk result }
+    ensures usage { command.entry ≡ None → IsOk result }
 {
-    match words::command_in(words) {
+    match command {
         None => Ok(Answer::refusal(lines::USAGE, 19)),
         Some(Command::Check { file }) => over_file(alloc, file, Task::Check, files),
         Some(Command::Verify { file, name, nodes }) => {
             over_file(alloc, file, Task::Verify { name, nodes }, files)
         }
-        Some(Command::Run { .. }) => Ok(Answer::unbuilt()),
+        Some(Command::Run { .. }) => unreachable!(),
         Some(Command::Same { .. }) => Ok(Answer::unbuilt()),
         Some(Command::Make { .. }) => Ok(Answer::unbuilt()),
     }
@@ -188,7 +202,7 @@ fn decide(alloc: Global, task: Task<'_>, bytes: &[u8]) -> Result<Answer, AllocEr
 {
     match read_clauses(alloc, bytes) {
         Ok(clauses) => over_clauses(alloc, task, clauses.as_slice()),
-        Err(error) => Answer::placed(alloc, refusals::unread(error)),
+        Err(error) => Answer::placed(alloc, refusals::unread(Whose::File, error)),
     }
 }
 
@@ -203,7 +217,7 @@ fn over_clauses(
 {
     match are_accepted(alloc, clauses) {
         Ok(()) => over_accepted(alloc, task, clauses),
-        Err(error) => Answer::placed(alloc, refusals::unloaded(error)),
+        Err(error) => Answer::placed(alloc, refusals::unloaded(Whose::File, error)),
     }
 }
 
@@ -304,6 +318,16 @@ fn verdict_answer(
                 outcome: Outcome::Differs,
             })
         }
+    }
+}
+
+// Writes the line of a refusal; there is none for want of memory.
+fn refuse<O: Sink>(alloc: Global, refusal: Option<Refusal>, out: &mut O) -> Outcome
+    ensures { RefusingSome (option_map refusal_view refusal) (O.written out.old) (O.written out.new) (O.faults out.old) (O.faults out.new) result }
+{
+    match Answer::placed(alloc, refusal) {
+        Ok(placed) => finish(out, placed.line.bytes(), placed.outcome),
+        Err(_) => Outcome::Memory,
     }
 }
 

@@ -15,6 +15,9 @@ pub const USAGE: &[u8] = b"error: usage\n";
 /// The file is longer than its limit.
 pub const FILE_TOO_LONG: &[u8] = b"error: file too long\n";
 
+/// The input is longer than its limit.
+pub const INPUT_TOO_LONG: &[u8] = b"error: input too long\n";
+
 /// What was asked for isn't built yet.
 pub const UNBUILT: &[u8] = b"error: not built yet\n";
 

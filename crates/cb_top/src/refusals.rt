@@ -1,12 +1,12 @@
-//! Refusals that name a place in the file.
+//! Refusals that name a place in the file or in the input.
 
-ghost use Rattle.std.specs.Prelude.{◌≡◌, [], ◌∷◌, ◌++◌, IfOk, OnOk};
+ghost use Rattle.std.specs.Prelude.{◌≡◌, [], ◌∷◌, ◌++◌, Some, IfOk, OnOk};
 ghost use Rattle.std.specs.Option.{option_map};
 ghost use Rattle.cb_model.specs.Text.{lines_text};
 ghost use Rattle.cb_model.specs.Output.{fault_refused};
 ghost use Rattle.cb_model.specs.Refusals.{refusal_line};
 ghost use Rattle.cb_lex.specs.Faults.{fault_of};
-ghost use Rattle.cb_top.specs.Refusals.{place_text, refusal_view, read_refused, load_refused};
+ghost use Rattle.cb_top.specs.Refusals.{whose_text, place_text, refusal_view, placed_in, read_refused, load_refused};
 
 use cb_directives::LoadError;
 use cb_lex::LexError;
@@ -14,7 +14,28 @@ use cb_syntax::ReadError;
 use itoa::Buffer;
 use std::alloc::{AllocError, Global};
 
-/// A place in a file.
+/// What a place is in.
+#[derive(Clone, Copy)]
+pub enum Whose {
+    /// The file.
+    File,
+    /// The input with its queries.
+    Query,
+}
+
+impl Whose {
+    // What stands before the place.
+    fn word(self) -> &'static [u8]
+        ensures { result.now ≡ whose_text self }
+    {
+        match self {
+            Whose::File => b"",
+            Whose::Query => b"query ",
+        }
+    }
+}
+
+/// A place in a file or in the input.
 #[derive(Clone, Copy)]
 pub enum Place {
     /// The number of a byte, counted from 0.
@@ -27,6 +48,7 @@ pub enum Place {
 #[derive(Clone, Copy)]
 pub struct Refusal {
     pub number: u8,
+    pub whose: Whose,
     pub place: Place,
     pub text: &'static [u8],
 }
@@ -37,6 +59,7 @@ impl Refusal {
         ensures { IfOk result (λ v. v.items ≡ lines_text (refusal_line (refusal_view self.now) ∷ [])) }
     {
         let mut line = Vec::from_slice(alloc, b"error: ")?;
+        line.extend_from_slice(self.whose.word())?;
         push_place(&mut line, self.place)?;
         line.extend_from_slice(self.text)?;
         line.push(b'\n')?;
@@ -45,60 +68,62 @@ impl Refusal {
 }
 
 // A refusal that names a byte.
-fn at_byte(number: u8, byte: u32, text: &'static [u8]) -> Refusal
-    ensures { result ≡ record { number = number; place = Place.Byte byte; text = text.entry } }
+fn at_byte(number: u8, whose: Whose, byte: u32, text: &'static [u8]) -> Refusal
+    ensures { result ≡ record { number = number; whose = whose; place = Place.Byte byte; text = text.entry } }
 {
     Refusal {
         number,
+        whose,
         place: Place::Byte(byte),
         text,
     }
 }
 
 // A refusal that names a line.
-fn at_line(number: u8, line: u32, text: &'static [u8]) -> Refusal
-    ensures { result ≡ record { number = number; place = Place.Line line; text = text.entry } }
+fn at_line(number: u8, whose: Whose, line: u32, text: &'static [u8]) -> Refusal
+    ensures { result ≡ record { number = number; whose = whose; place = Place.Line line; text = text.entry } }
 {
     Refusal {
         number,
+        whose,
         place: Place::Line(line),
         text,
     }
 }
 
 // The refusal of the first fault of the bytes.
-fn of_bytes(fault: LexError) -> Refusal
-    ensures { refusal_view result ≡ fault_refused (fault_of fault) }
+fn of_bytes(whose: Whose, fault: LexError) -> Refusal
+    ensures { Some (refusal_view result) ≡ placed_in whose (Some (fault_refused (fault_of fault))) }
 {
     match fault {
-        LexError::Byte(byte) => at_byte(1, byte, b"unexpected byte"),
-        LexError::Number(byte) => at_byte(2, byte, b"number out of range"),
-        LexError::Quote(byte) => at_byte(3, byte, b"unclosed quote"),
+        LexError::Byte(byte) => at_byte(1, whose, byte, b"unexpected byte"),
+        LexError::Number(byte) => at_byte(2, whose, byte, b"number out of range"),
+        LexError::Quote(byte) => at_byte(3, whose, byte, b"unclosed quote"),
     }
 }
 
 /// The refusal of a text that is not read; `None` for want of memory.
-pub fn unread(error: ReadError) -> Option<Refusal>
-    ensures { option_map refusal_view result ≡ read_refused error }
+pub fn unread(whose: Whose, error: ReadError) -> Option<Refusal>
+    ensures { option_map refusal_view result ≡ placed_in whose (read_refused error) }
 {
     match error {
-        ReadError::Lex(fault) => Some(of_bytes(fault)),
-        ReadError::Syntax(line) => Some(at_line(4, line, b"syntax")),
-        ReadError::Unfinished(line) => Some(at_line(5, line, b"unfinished clause")),
-        ReadError::Deep(line) => Some(at_line(6, line, b"nested too deep")),
+        ReadError::Lex(fault) => Some(of_bytes(whose, fault)),
+        ReadError::Syntax(line) => Some(at_line(4, whose, line, b"syntax")),
+        ReadError::Unfinished(line) => Some(at_line(5, whose, line, b"unfinished clause")),
+        ReadError::Deep(line) => Some(at_line(6, whose, line, b"nested too deep")),
         ReadError::Memory => None,
     }
 }
 
-/// The refusal of clauses that are not accepted; `None` for want of memory.
-pub fn unloaded(error: LoadError) -> Option<Refusal>
-    ensures { option_map refusal_view result ≡ load_refused error }
+/// The refusal of clauses or queries that are not accepted; `None` for want of memory.
+pub fn unloaded(whose: Whose, error: LoadError) -> Option<Refusal>
+    ensures { option_map refusal_view result ≡ placed_in whose (load_refused error) }
 {
     match error {
-        LoadError::Directive(line) => Some(at_line(7, line, b"bad directive")),
-        LoadError::SortClash(line) => Some(at_line(8, line, b"sort clash")),
-        LoadError::Unknown(line) => Some(at_line(9, line, b"unknown name")),
-        LoadError::Twice(line) => Some(at_line(10, line, b"declared twice")),
+        LoadError::Directive(line) => Some(at_line(7, whose, line, b"bad directive")),
+        LoadError::SortClash(line) => Some(at_line(8, whose, line, b"sort clash")),
+        LoadError::Unknown(line) => Some(at_line(9, whose, line, b"unknown name")),
+        LoadError::Twice(line) => Some(at_line(10, whose, line, b"declared twice")),
         LoadError::Memory => None,
     }
 }

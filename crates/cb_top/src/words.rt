@@ -3,7 +3,8 @@
 ghost use Rattle.std.specs.Prelude.{◌≡◌, [], ◌∷◌, map, string_bytes};
 ghost use Rattle.std.specs.Option.{option_map};
 ghost use Rattle.cb_model.specs.Commands.{number_upto, nodes_of, command_of};
-ghost use Rattle.cb_top.specs.Words.{command_view, nodes_view, budget_of, digit_upto};
+ghost use Rattle.cb_top.specs.Words.{command_view, nodes_view, digit_upto};
+ghost use Rattle.cb_queries.specs.Told.{budget_of};
 
 /// A budget of nodes: so many at most, or as many as memory holds.
 #[derive(Clone, Copy, PartialEq, Eq, Debug)]

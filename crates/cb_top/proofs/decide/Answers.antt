@@ -1,5 +1,7 @@
+use Rattle.std.proofs.Common.{◌∙◌}
 use Rattle.cb_top.specs.Answers.{task_view}
-use Rattle.cb_top.proofs.Deciding.{clauses_few, decides-read, decides-unread}
+use Rattle.cb_top.specs.Refusals.{read_refused}
+use Rattle.cb_top.proofs.Deciding.{clauses_few, decides-read, decides-unread, in_file}
 use Rattle.cb_top.proofs.Outputs.{if-ok}
 use Rattle.cb_top.proofs.decide.Goals as goal
 
@@ -12,4 +14,5 @@ returns-in-Ok c =
 
 pub returns-in-Err : goal.returns-in-Err
 returns-in-Err c =
-    if-ok c.placed.result (λ a h. decides-unread (task_view c.args.task) _ _ _ c.in-Err.error _ c.requires c.in-Err.ensures.reading c.unread.ensures h) c.placed.ensures
+    if-ok c.placed.result
+    (λ a h. decides-unread (task_view c.args.task) _ _ _ c.in-Err.error _ c.requires c.in-Err.ensures.reading (c.unread.ensures ∙ in_file (read_refused c.in-Err.error)) h) c.placed.ensures

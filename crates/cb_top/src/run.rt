@@ -1,0 +1,235 @@
+//! `run`: the queries of the input over a file.
+
+ghost use Rattle.std.specs.Prelude.{◌≡◌, ℕ, ◌≤◌, ◌↔◌, true, List, map, length, MatchResult, IsTrue};
+ghost use Rattle.std.specs.List.{list_all};
+ghost use Rattle.cb_model.specs.Bits.{Each};
+ghost use Rattle.cb_model.specs.Text.{Text};
+ghost use Rattle.cb_model.specs.Forms.{clause_form, query_form};
+ghost use Rattle.cb_model.specs.Grammar.{FormClause, FormQuery, ReadsQuery, Whole, IsReading};
+ghost use Rattle.cb_model.specs.Written.{AreClauses, AreQueries, query_written};
+ghost use Rattle.cb_queries.specs.Told.{IsBoolean};
+ghost use Rattle.cb_top.specs.Built.{IsRead};
+ghost use Rattle.cb_top.specs.Words.{nodes_view};
+ghost use Rattle.cb_top.specs.Answers.{without_circuits};
+ghost use Rattle.cb_top.specs.Running.{AllAsk, AllTold, AskedRun, BytesRun, CanBeTold, FileRun, InputWrites, IsOfClauses, IsOfEquations, IsOver, OneTold, ProgramRun, RefusesQueries};
+
+use crate::clauses::have_fact;
+use crate::refusals::{Whose, unloaded, unread};
+use crate::words::Nodes;
+use crate::{FILE_LIMIT, finish, lines, refuse};
+use cb_boolean::are_equations;
+use cb_host::{Files, Load, Sink, Source, read_within, write_all};
+use cb_model::{Outcome, RawClause, RawQuery, Side};
+use cb_queries::tell;
+use cb_equations::equations_read;
+use cb_sorts::{LoadError, Program, Query, load, queries_over_file};
+use cb_syntax::{read_clauses, read_queries};
+use std::alloc::Global;
+
+/// The most bytes of the input.
+pub const INPUT_LIMIT: u64 = 1048576;
+
+/// Runs the queries of the input over a file. No byte of the input is read before the file is accepted.
+pub fn over_file<F: Files, I: Source, O: Sink>(
+    alloc: Global,
+    file: &str,
+    nodes: Nodes,
+    files: &mut F,
+    input: &mut I,
+    out: &mut O,
+) -> Outcome
+    ensures { (resolutions : ℕ) → FileRun (F.list files.old) file.now (F.faults files.old) (F.faults files.new) resolutions (nodes_view nodes) (I.left input.old) (I.left input.new) (I.faults input.old) (I.faults input.new) (O.written out.old) (O.written out.new) (O.faults out.old) (O.faults out.new) result }
+{
+    let mut bytes = Vec::new(alloc);
+    match files.load(file, &mut bytes, FILE_LIMIT) {
+        Load::Done => over_bytes(alloc, bytes.as_slice(), nodes, input, out),
+        Load::Long => finish(out, lines::FILE_TOO_LONG, Outcome::Refused(20)),
+        Load::Failed => Outcome::Fault(Side::File),
+        Load::Memory => Outcome::Memory,
+    }
+}
+
+// Runs over the bytes of the file.
+fn over_bytes<I: Source, O: Sink>(
+    alloc: Global,
+    bytes: &[u8],
+    nodes: Nodes,
+    input: &mut I,
+    out: &mut O,
+) -> Outcome
+    requires { length bytes.now ≤ 4194304 }
+    ensures { (resolutions : ℕ) → BytesRun bytes.now resolutions (nodes_view nodes) (I.left input.old) (I.left input.new) (I.faults input.old) (I.faults input.new) (O.written out.old) (O.written out.new) (O.faults out.old) (O.faults out.new) result }
+{
+    match read_clauses(alloc, bytes) {
+        Ok(clauses) => over_clauses(alloc, clauses.as_slice(), nodes, input, out),
+        Err(error) => refuse(alloc, unread(Whose::File, error), out),
+    }
+}
+
+// Runs over the clauses of the file.
+fn over_clauses<I: Source, O: Sink>(
+    alloc: Global,
+    clauses: &[RawClause<'_>],
+    nodes: Nodes,
+    input: &mut I,
+    out: &mut O,
+) -> Outcome
+    requires { AreClauses 4194304 (map clause_form clauses.now) }
+    ensures { (file : Text) (resolutions : ℕ) → IsRead file (map clause_form clauses.now) → BytesRun file resolutions (nodes_view nodes) (I.left input.old) (I.left input.new) (I.faults input.old) (I.faults input.new) (O.written out.old) (O.written out.new) (O.faults out.old) (O.faults out.new) result }
+{
+    let program = match load(alloc, clauses) {
+        Ok(program) => program,
+        Err(error) => return refuse(alloc, unloaded(Whose::File, error), out),
+    };
+    if have_fact(clauses) {
+        return finish(out, lines::UNBUILT, Outcome::Refused(99));
+    }
+    over_program(alloc, &program, nodes, input, out)
+}
+
+// Reads the input and runs its queries over the program.
+fn over_program<I: Source, O: Sink>(
+    alloc: Global,
+    program: &Program<'_>,
+    nodes: Nodes,
+    input: &mut I,
+    out: &mut O,
+) -> Outcome
+    requires { IsOfClauses program.now }
+    ensures { (cs : List FormClause) (resolutions : ℕ) → IsOver cs program.now → ProgramRun (without_circuits cs program.now.declared) resolutions (nodes_view nodes) (I.left input.old) (I.left input.new) (I.faults input.old) (I.faults input.new) (O.written out.old) (O.written out.new) (O.faults out.old) (O.faults out.new) result }
+{
+    let mut bytes = Vec::new(alloc);
+    match read_within(input, &mut bytes, INPUT_LIMIT) {
+        Load::Done => over_input(alloc, program, bytes.as_slice(), nodes, out),
+        Load::Long => finish(out, lines::INPUT_TOO_LONG, Outcome::Refused(20)),
+        Load::Failed => Outcome::Fault(Side::Input),
+        Load::Memory => Outcome::Memory,
+    }
+}
+
+// Runs the queries of these bytes.
+fn over_input<'s: 'i, 'i, O: Sink>(
+    alloc: Global,
+    program: &Program<'s>,
+    bytes: &'i [u8],
+    nodes: Nodes,
+    out: &mut O,
+) -> Outcome
+    requires program { IsOfClauses program.now }
+    requires short { length bytes.now ≤ 1048576 }
+    ensures { (cs : List FormClause) (resolutions : ℕ) → IsOver cs program.now → InputWrites (without_circuits cs program.now.declared) resolutions (nodes_view nodes) bytes.now (O.written out.old) (O.written out.new) (O.faults out.old) (O.faults out.new) result }
+{
+    match read_queries(alloc, bytes) {
+        Ok(queries) => over_queries(alloc, program, queries.as_slice(), nodes, out),
+        Err(error) => refuse(alloc, unread(Whose::Query, error), out),
+    }
+}
+
+// Runs these queries, once all of them are accepted.
+fn over_queries<'s, O: Sink>(
+    alloc: Global,
+    program: &Program<'s>,
+    raw: &[RawQuery<'s>],
+    nodes: Nodes,
+    out: &mut O,
+) -> Outcome
+    requires program { IsOfClauses program.now }
+    requires written { AreQueries 1048576 (map query_form raw.now) }
+    ensures { (cs : List FormClause) (resolutions : ℕ) (input : Text) → IsOver cs program.now → length input ≤ 1048576 → IsReading ReadsQuery input (Whole (map query_form raw.now)) → InputWrites (without_circuits cs program.now.declared) resolutions (nodes_view nodes) input (O.written out.old) (O.written out.new) (O.faults out.old) (O.faults out.new) result }
+{
+    equations_read();
+    queries_over_file();
+    match ask_all(alloc, program, raw) {
+        Ok(queries) => over_asked(alloc, program, queries.as_slice(), nodes, out),
+        Err(error) => refuse(alloc, unloaded(Whose::Query, error), out),
+    }
+}
+
+// What the queries ask, or the first refusal among them.
+fn ask_all<'s>(
+    alloc: Global,
+    program: &Program<'s>,
+    raw: &[RawQuery<'s>],
+) -> Result<Vec<Query<'s>>, LoadError>
+    requires { list_all query_written (map query_form raw.now) ≡ true }
+    ensures { (cs : List FormClause) → IsOver cs program.now → MatchResult result (λ v. AllAsk cs program.now (map query_form raw.now) v.items) (RefusesQueries (without_circuits cs program.now.declared) (map query_form raw.now)) }
+{
+    let mut queries = Vec::new(alloc);
+    for query in raw {
+        let asked = program.query(alloc, query)?;
+        if queries.push(asked).is_err() {
+            return Err(LoadError::Memory);
+        }
+    }
+    Ok(queries)
+}
+
+// Runs accepted queries, where each is of Boolean equations.
+fn over_asked<O: Sink>(
+    alloc: Global,
+    program: &Program<'_>,
+    queries: &[Query<'_>],
+    nodes: Nodes,
+    out: &mut O,
+) -> Outcome
+    requires { Each (CanBeTold program.now) queries.now }
+    ensures { AskedRun program.now (nodes_view nodes) queries.now (O.written out.old) (O.written out.new) (O.faults out.old) (O.faults out.new) result }
+{
+    if !are_boolean(queries) {
+        return finish(out, lines::UNBUILT, Outcome::Refused(99));
+    }
+    match tell_all(alloc, program, queries, nodes, out) {
+        Ok(true) => Outcome::Stopped,
+        Ok(false) => Outcome::Done,
+        Err(outcome) => outcome,
+    }
+}
+
+// Whether each query is of Boolean equations.
+fn are_boolean(queries: &[Query<'_>]) -> bool
+    ensures { IsTrue result ↔ Each IsOfEquations queries.now }
+{
+    queries
+        .iter()
+        .all(|query| are_equations(query.goals(), query.sorts()))
+}
+
+// Tells each query alone and writes its text as it is made; whether a last line of one is a stop line.
+fn tell_all<O: Sink>(
+    alloc: Global,
+    program: &Program<'_>,
+    queries: &[Query<'_>],
+    nodes: Nodes,
+    out: &mut O,
+) -> Result<bool, Outcome>
+    requires { Each (IsBoolean program.now) queries.now }
+    ensures { AllTold program.now (nodes_view nodes) queries.now (O.written out.old) (O.written out.new) (O.faults out.old) (O.faults out.new) result }
+{
+    let mut stopped = false;
+    for query in queries {
+        let stop = tell_one(alloc, program, query, nodes, out)?;
+        stopped = stopped || stop;
+    }
+    Ok(stopped)
+}
+
+// Tells one query and writes its text; whether its last line is a stop line.
+fn tell_one<O: Sink>(
+    alloc: Global,
+    program: &Program<'_>,
+    query: &Query<'_>,
+    nodes: Nodes,
+    out: &mut O,
+) -> Result<bool, Outcome>
+    requires { IsBoolean program.now query.now }
+    ensures told { OneTold program.now (nodes_view nodes) query.now (O.written out.old) (O.written out.new) (O.faults out.old) (O.faults out.new) result }
+    ensures count { O.faults out.old ≤ O.faults out.new }
+{
+    let Ok(told) = tell(alloc, program, query, nodes.budget()) else {
+        return Err(Outcome::Memory);
+    };
+    match write_all(out, told.text.as_slice()) {
+        Ok(()) => Ok(told.stopped),
+        Err(_) => Err(Outcome::Fault(Side::Output)),
+    }
+}
