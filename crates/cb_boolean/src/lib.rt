@@ -1,7 +1,7 @@
 //! Boolean equations solved one after another on a store of their own.
 #![tactic(auto)]
 
-ghost use Rattle.std.specs.Prelude.{◌≡◌, ◌≢◌, ℕ, ◌+◌, ◌-◌, ◌^◌, ◌<◌, ◌≤◌, ◌↔◌, true, false, List, [], ◌∷◌, ◌++◌, map, length, Some, Ok, Err, IfOk, OnOk, IsTrue};
+ghost use Rattle.std.specs.Prelude.{◌≡◌, ◌≢◌, ℕ, ◌+◌, ◌-◌, ◌^◌, ◌<◌, ◌≤◌, ◌↔◌, true, false, List, [], ◌∷◌, ◌++◌, map, length, Some, Ok, Err, IfOk, IfSome, OnOk, IsTrue};
 ghost use Rattle.std.specs.Option.{option_map};
 ghost use Rattle.cb_model.specs.Bits.{Each};
 ghost use Rattle.cb_model.specs.declared.Sort.TheVariants as sort;
@@ -148,4 +148,71 @@ pub fn solve(
     // What the store promises of its number of nodes holds here too, after a stop.
     let _count = store.read().count();
     if solved? { Ok(Some(store)) } else { Ok(None) }
+}
+
+#[cfg(test)]
+mod tests {
+    use super::*;
+    use cb_dd::Node;
+    use std::test::Fail;
+
+    // One constant and one variable, which equals the constant and the second expression.
+    fn solve_both(alloc: Global, second: Expr) -> Result<Option<Store>, Stop>
+        requires { in_scope 1 1 second ≡ true }
+        ensures { IfOk result (λ r. IfSome r (λ s. IsStore s × (length s.slots ≡ 1))) }
+    {
+        let goals = [
+            Goal::Equal(Tree::Leaf(Expr::Var(0)), Tree::Leaf(Expr::Const(0))),
+            Goal::Equal(Tree::Leaf(Expr::Var(0)), Tree::Leaf(second)),
+        ];
+        solve(alloc, 1, 1, &goals, 100)
+    }
+
+    // One constant and two variables, and no equations.
+    fn solve_none(alloc: Global) -> Result<Option<Store>, Stop>
+        ensures { IfOk result (λ r. IfSome r (λ s. IsStore s × (length s.slots ≡ 2))) }
+    {
+        solve(alloc, 1, 2, &[], 100)
+    }
+
+    #[test]
+    fn the_variable_is_the_constant(rt: HostRuntime) -> Result<(), Fail> {
+        let found = solve_both(rt.alloc(), Expr::Const(0))?;
+        let store = found.expect(&rt, "a solution");
+        let value = store.value(Slot(0));
+        assert_eq!(rt; store.read().parts(value), Some((0, Node::ZERO, Node::ONE)));
+        Ok(())
+    }
+
+    #[test]
+    fn no_solution_over_constants(rt: HostRuntime) -> Result<(), Fail> {
+        let found = solve_both(rt.alloc(), Expr::One)?;
+        assert!(rt; found.is_none());
+        Ok(())
+    }
+
+    #[test]
+    fn variables_without_equations_are_free(rt: HostRuntime) -> Result<(), Fail> {
+        let found = solve_none(rt.alloc())?;
+        let store = found.expect(&rt, "a solution");
+        assert_eq!(rt; store.drawn(), 3);
+        let first = store.value(Slot(0));
+        let second = store.value(Slot(1));
+        assert_eq!(rt; store.read().parts(first), Some((1, Node::ZERO, Node::ONE)));
+        assert_eq!(rt;
+            store.read().parts(second),
+            Some((2, Node::ZERO, Node::ONE))
+        );
+        Ok(())
+    }
+
+    #[test]
+    fn a_budget_of_no_nodes_stops(rt: HostRuntime) -> Result<(), Fail> {
+        let stopped = match solve(rt.alloc(), 0, 1, &[], 0) {
+            Ok(_) => None,
+            Err(stop) => Some(stop),
+        };
+        assert_eq!(rt; stopped, Some(Stop::Nodes));
+        Ok(())
+    }
 }
