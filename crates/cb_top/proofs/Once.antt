@@ -80,11 +80,11 @@ rules-not : {d : Declared} {hs : List Sign} {ms : List (Option Text)} {cs : List
 rules-not none k = elim k [ ]
 rules-not (skip t h) (skip u k) = rules-not h k
 rules-not (skip t h) (directive k) = absurd (cc)
-rules-not (skip t h) (passes f b k) = fact-not _ t f
-rules-not (skip t h) (refused f b) = fact-not _ t f
+rules-not (skip {c = c} t h) (passes f b k) = fact-not c t f
+rules-not (skip {c = c} t h) (refused f b) = fact-not c t f
 rules-not (directive h) (skip u k) = absurd (cc)
 rules-not (directive h) (directive k) = rules-not h k
-rules-not (passes f b h) (skip u k) = fact-not _ u f
+rules-not (passes f b h) (skip {c = c} u k) = fact-not c u f
 rules-not (passes f b h) (passes g c k) = rules-not h k
 rules-not {d} {hs} {ms} (passes {f = x} {gs = gs} f b h) (refused {r = r} g c) = body-not d hs ms (body_of x gs) r b c
 

@@ -157,9 +157,9 @@ fn ask_all<'s>(
     let mut queries = Vec::new(alloc);
     for query in raw {
         let asked = program.query(alloc, query)?;
-        if queries.push(asked).is_err() {
+        let Ok(()) = queries.push(asked) else {
             return Err(LoadError::Memory);
-        }
+        };
     }
     Ok(queries)
 }
@@ -213,7 +213,7 @@ fn tell_all<O: Sink>(
     let mut stopped = false;
     for query in queries {
         let stop = tell_one(alloc, program, query, nodes, out)?;
-        stopped = stopped || stop;
+        stopped |= stop;
     }
     Ok(stopped)
 }
