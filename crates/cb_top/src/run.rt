@@ -8,6 +8,7 @@ ghost use Rattle.cb_model.specs.Forms.{clause_form, query_form};
 ghost use Rattle.cb_model.specs.Grammar.{FormClause, FormQuery, ReadsQuery, Whole, IsReading};
 ghost use Rattle.cb_model.specs.Written.{AreClauses, AreQueries, query_written};
 ghost use Rattle.cb_queries.specs.Told.{IsBoolean};
+ghost use Rattle.cb_model.specs.Output.{run_outcome};
 ghost use Rattle.cb_top.specs.Built.{IsRead};
 ghost use Rattle.cb_top.specs.Words.{nodes_view};
 ghost use Rattle.cb_top.specs.Answers.{without_circuits};
@@ -177,12 +178,22 @@ fn over_asked<O: Sink>(
 {
     if are_boolean(queries) {
         return match tell_all(alloc, program, queries, nodes, out) {
-            Ok(true) => Outcome::Stopped,
-            Ok(false) => Outcome::Done,
+            Ok(stopped) => outcome_of(stopped),
             Err(outcome) => outcome,
         };
     }
     finish(out, lines::UNBUILT, Outcome::Refused(99))
+}
+
+// The outcome of queries that were told, one of them with a stop line or none.
+fn outcome_of(stopped: bool) -> Outcome
+    ensures { result ≡ run_outcome stopped }
+{
+    if stopped {
+        Outcome::Stopped
+    } else {
+        Outcome::Done
+    }
 }
 
 // Whether a query is of Boolean equations.

@@ -3,7 +3,7 @@ use Rattle.cb_top.proofs.Steps.{asked-none, asked-on, asked-refused, asked-end, 
 use Rattle.cb_top.proofs.run.ask_all.Goals as goal
 
 pub loop-query-init : goal.loop-query-init
-loop-query-init c = λ cs o. asked-none cs _ _ c.new-queries.result.items c.new-queries.ensures
+loop-query-init c = λ cs o. asked-none cs _ _ c.new-queries.result.items c.new-queries.ensures.items
 
 pub query-requires : goal.query-requires
 query-requires c = written-at c.args.raw.now c.query-item.result c.loop-query.query-index c.requires c.loop-query-test.true c.query-item.is
@@ -11,7 +11,7 @@ query-requires c = written-at c.args.raw.now c.query-item.result c.loop-query.qu
 pub loop-query-preserved : goal.loop-query-preserved
 loop-query-preserved c = λ cs o.
     asked-on cs c.args.program.now c.args.raw.now c.query-item.result c.loop-query.query-index c.loop-query.queries.items c.push.new.self.items _ c.loop-query-test.true c.query-item.is
-    (c.loop-query.invariant cs o) (c.in_ok-asked.ensures cs o.loads) c.in-Ok.ensures.ok
+    (c.loop-query.invariant cs o) (c.in_ok-asked.ensures cs o.loads) c.in-Ok.ensures.items
 
 pub returns-in_err-asked : goal.returns-in_err-asked
 returns-in_err-asked c = λ cs o.

@@ -1,5 +1,4 @@
-use Rattle.std.proofs.Common.{refl, sym, ap}
-use Rattle.cb_model.specs.Output.{run_outcome}
+use Rattle.std.proofs.Common.{refl}
 use Rattle.std.proofs.lemmas.Bool.{false≢true}
 use Rattle.cb_top.specs.Running.{not_boolean, told, whole}
 use Rattle.cb_top.proofs.Telling.{can-tell}
@@ -12,11 +11,8 @@ tell_all-requires g c = can-tell c.args.program.now c.args.queries.now c.require
 pub returns : goal.returns
 returns g c = not_boolean (λ e. false≢true (c.if-are_boolean.ensures.1 e)) c.finish.ensures
 
-pub returns-in-Ok-true : goal.returns-in-Ok-true
-returns-in-Ok-true g c = let t = c.in-Ok-true.ensures in told (c.if-are_boolean.ensures.0 refl) (whole t.0 (_, (t.1.0, sym (ap run_outcome c.in-Ok-true.field-0-is))) t.1.1)
-
-pub returns-in-Ok-false : goal.returns-in-Ok-false
-returns-in-Ok-false g c = let t = c.in-Ok-false.ensures in told (c.if-are_boolean.ensures.0 refl) (whole t.0 (_, (t.1.0, sym (ap run_outcome c.in-Ok-false.field-0-is))) t.1.1)
+pub returns-in-Ok : goal.returns-in-Ok
+returns-in-Ok g c = let t = c.in-Ok.ensures in told (c.if-are_boolean.ensures.0 refl) (whole t.0 (_, (t.1.0, c.outcome_of.ensures)) t.1.1)
 
 pub returns-in-Err : goal.returns-in-Err
 returns-in-Err g c = told (c.if-are_boolean.ensures.0 refl) (breaks-writes c.in-Err.ensures)
