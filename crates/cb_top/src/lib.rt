@@ -73,14 +73,13 @@ pub fn chipbool<F: Files, I: Source, O: Sink>(
     ensures fault_of_input { result ≡ Outcome.Fault Side.Input → Rose (I.faults input.old) (I.faults input.new) }
     ensures fault_of_output { result ≡ Outcome.Fault Side.Output → Rose (O.faults out.old) (O.faults out.new) }
 {
-    match words::command_in(words) {
-        Some(Command::Run { file, nodes, .. }) => {
-            run::over_file(alloc, file, nodes, files, input, out)
-        }
-        command => match answer_to(alloc, command, files) {
-            Ok(answer) => finish(out, answer.line.bytes(), answer.outcome),
-            Err(outcome) => outcome,
-        },
+    let command = words::command_in(words);
+    if let Some(Command::Run { file, nodes, .. }) = command {
+        return run::over_file(alloc, file, nodes, files, input, out);
+    }
+    match answer_to(alloc, command, files) {
+        Ok(answer) => finish(out, answer.line.bytes(), answer.outcome),
+        Err(outcome) => outcome,
     }
 }
 
