@@ -128,7 +128,8 @@ fn solve_in(alloc: Global, store: &mut Store, variables: u32, goals: &[Goal]) ->
 
 /// Solves the equations of a query, each added to those before. The store has the constants and a slot for each
 /// variable, whose number is that of the slot, and holds at most `budget` nodes. `None` where the equations have no
-/// solution: the first that leaves none ends the solving.
+/// solution: the first that leaves none ends the solving. `Stop::Nodes` where the store would need more nodes than
+/// `budget`, and `Stop::Memory` where there is no memory.
 pub fn solve(
     alloc: Global,
     constants: u32,

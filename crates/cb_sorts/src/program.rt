@@ -122,6 +122,14 @@ impl<'s> Program<'s> {
         self.declared.constant_name(constant)
     }
 
+    /// How many names there are, each with its number of arguments. They are numbered from 0, and those of a query behind
+    /// them.
+    pub fn names(&self) -> usize
+        ensures { result ≡ length self.now.names }
+    {
+        self.known.names.len()
+    }
+
     /// The name under a number, without its number of arguments.
     pub fn name(&self, number: u32) -> &'s [u8]
         requires { number < length self.now.names }

@@ -1,0 +1,95 @@
+ghost use Rattle.std.specs.Prelude.{◌≡◌, length};
+ghost use Rattle.cb_elim.specs.Store.{IsStore, IsArgument};
+
+use crate::setup::{seen, with_variables};
+use cb_dd::{Node, Stop};
+use cb_elim::{Slot, Store};
+use std::alloc::Global;
+
+// How a list of equations ended.
+#[derive(Clone, Copy, PartialEq, Debug)]
+enum Ending {
+    Solved,
+    Refused,
+    // A stop for nodes, and whether the store was as before it.
+    Full(bool),
+}
+
+// Adds an equation to a store of forty slots.
+fn watched(alloc: Global, store: &mut Store, f: Node, g: Node) -> Result<Ending, Stop>
+    requires store { IsStore store.old }
+    requires slots { length store.old.slots ≡ 40 }
+    requires f { IsArgument store.old f.0 }
+    requires g { IsArgument store.old g.0 }
+    ensures constants { store.new.constants ≡ store.old.constants }
+    ensures slots { length store.new.slots ≡ 40 }
+    ensures store { IsStore store.new }
+{
+    let before = seen(alloc, store, 40)?;
+    match store.unify(f, g) {
+        Ok(true) => Ok(Ending::Solved),
+        Ok(false) => Ok(Ending::Refused),
+        Err(Stop::Nodes) => {
+            let after = seen(alloc, store, 40)?;
+            Ok(Ending::Full(before == after))
+        }
+        Err(Stop::Memory) => Err(Stop::Memory),
+    }
+}
+
+// Whether each of the forty slots has this value.
+fn are_all(store: &Store, node: Node) -> bool
+    requires store { IsStore store.now }
+    requires slots { length store.now.slots ≡ 40 }
+{
+    for x in 0..40 {
+        if store.value(Slot(x)) != node {
+            return false;
+        }
+    }
+    true
+}
+
+// Forty variables are made equal one after another, and then the last of them is made equal to the constant.
+fn chain(alloc: Global, budget: usize) -> Result<Ending, Stop> {
+    let mut store = with_variables(alloc, budget, 40)?;
+    for x in 1..40 {
+        let f = store.value(Slot(x - 1));
+        let g = store.value(Slot(x));
+        let ending = watched(alloc, &mut store, f, g)?;
+        if ending != Ending::Solved {
+            return Ok(ending);
+        }
+    }
+    let a = store.constant(0)?;
+    let f = store.value(Slot(39));
+    let ending = watched(alloc, &mut store, f, a)?;
+    if ending == Ending::Solved && !are_all(&store, a) {
+        return Ok(Ending::Refused);
+    }
+    Ok(ending)
+}
+
+// The forty variables are the constant.
+#[test]
+fn a_chain_of_forty_is_the_constant(rt: HostRuntime) {
+    assert_eq!(rt; chain(rt.alloc(), 1000), Ok(Ending::Solved));
+}
+
+// Every budget below what the chain needs stops it, and the equation that stops leaves the store as it was. It needs
+// the nodes of the variables and of the constant at least, and a few for each variable at most.
+#[test]
+fn a_full_store_is_as_before(rt: HostRuntime) {
+    for budget in 0..200 {
+        match chain(rt.alloc(), budget) {
+            Err(Stop::Nodes) => {}
+            Ok(Ending::Full(same)) => assert!(rt; same, "{budget}"),
+            ending => {
+                assert_eq!(rt; ending, Ok(Ending::Solved));
+                assert!(rt; 41 <= budget);
+                return;
+            }
+        }
+    }
+    assert!(rt; false, "a budget is enough");
+}

@@ -1,0 +1,11 @@
+//! The store of Boolean variables, tried from outside. The values were worked out by hand.
+#![tactic(auto)]
+
+#[cfg(test)]
+mod full;
+#[cfg(test)]
+mod products;
+#[cfg(test)]
+mod setup;
+#[cfg(test)]
+mod undone;
