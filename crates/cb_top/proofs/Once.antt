@@ -1,14 +1,13 @@
 -- A file is refused or accepted, and not both; its clauses are one list.
-use Rattle.std.proofs.Common.{◌≡◌, ◌⊎◌, ℕ, zero, suc, ◌<◌, ◌≤◌, Bool, true, false, MatchBool, List, [], ◌∷◌, ◌++◌, take, drop, length, get_or, Option, Some, None, All, refl, sym, ap, subst, ◌∙◌, inl, inr, arith}
+use Rattle.std.proofs.Common.{◌≡◌, ◌⊎◌, ℕ, zero, suc, ◌<◌, Bool, true, false, MatchBool, List, [], ◌∷◌, drop, get_or, Option, Some, None, All, sym, ap, subst, ◌∙◌, inl, inr, arith}
 use Rattle.std.specs.List.{list_any}
 use Rattle.std.proofs.lemmas.List.{take-append-drop}
 use Rattle.std.proofs.lemmas.Bool.{true≢false}
 use Rattle.cb_model.specs.Text.{Text}
-use Rattle.cb_model.specs.Tokens.{Token, Fault, Lexes}
-use Rattle.cb_model.specs.Grammar.{FormClause, FormGoal, Form, Directive, Rule, Reading, Whole, Lexed, Syntax, Unfinished, Deep, IsReading, whole, lexed, syntax_at, deep_at, unfinished, ReadsClause, ReadsAll, CanGoOn, nestings}
+use Rattle.cb_model.specs.Tokens.{Token, Lexes}
+use Rattle.cb_model.specs.Grammar.{FormClause, Reading, Whole, IsReading, whole, lexed, syntax_at, deep_at, unfinished, ReadsClause, ReadsAll, nestings}
 use Rattle.cb_model.specs.Directives.{Sign, Declared, Refusal, Checked, Twice, Unknown, SortClash, directives, heads}
 use Rattle.cb_model.specs.Sorts.{Body, Clash}
-use Rattle.cb_model.specs.Loading as loading
 use Rattle.cb_model.specs.Loading.{is_fact, is_taken, goal_unknown, body_of, module_names, BodyRefusal, RulesRefusal, none, skip, directive, passes, refused}
 use Rattle.cb_model.specs.Refusals.{Refused}
 use Rattle.cb_model.specs.Output.{Loaded, reading_refused}

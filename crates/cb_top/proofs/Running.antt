@@ -1,14 +1,14 @@
 -- What is written over an input and over a file, and how the run ends.
-use Rattle.std.proofs.Common.{◌≡◌, ◌⊎◌, ℕ, ◌<◌, ◌≤◌, Bool, true, false, List, [], ◌∷◌, ◌++◌, take, drop, length, codes, map, Option, Some, None, refl, sym, ap, subst, ◌∙◌, inl, inr, arith}
+use Rattle.std.proofs.Common.{◌≡◌, ◌⊎◌, ℕ, ◌<◌, ◌≤◌, false, List, [], ◌∷◌, ◌++◌, take, drop, length, codes, map, Option, Some, None, refl, sym, ap, subst, ◌∙◌, inl, inr, arith}
 use Rattle.std.specs.List.{list_any}
 use Rattle.std.proofs.lemmas.Option.{same_Some}
 use Rattle.cb_model.specs.declared.Outcome.{Outcome}
 use Rattle.cb_model.specs.declared.Outcome.TheVariants as outcome
 use Rattle.cb_model.specs.declared.Side.{Side}
 use Rattle.cb_model.specs.declared.Side.TheVariants as side
-use Rattle.cb_model.specs.Text.{Text, lines_text, IsPrefix}
+use Rattle.cb_model.specs.Text.{Text, lines_text}
 use Rattle.cb_model.specs.Bits.{Each}
-use Rattle.cb_model.specs.Commands.{Command, Run, Nodes, command_of, file_name}
+use Rattle.cb_model.specs.Commands.{Run, Nodes, command_of, file_name}
 use Rattle.cb_model.specs.Grammar.{FormClause, FormQuery, Whole, Lexed, Syntax, Unfinished, Deep, ReadsClause, ReadsQuery, IsReading}
 use Rattle.cb_model.specs.declared.RawClause.{RawClause}
 use Rattle.cb_model.specs.declared.RawQuery.{RawQuery}

@@ -1,5 +1,5 @@
 -- The loops over queries: what is asked and told so far.
-use Rattle.std.proofs.Common.{◌≡◌, ℕ, zero, suc, ◌+◌, ◌-◌, ◌^◌, ◌<◌, ◌≤◌, min, Bool, true, false, ◌&&◌, ◌||◌, List, [], ◌∷◌, ◌++◌, map, take, drop, get_or, add-one, length, Option, Some, None, refl, sym, ap, subst, ◌∙◌, inl, inr, ◌⊎◌, arith, append_assoc, append-nil}
+use Rattle.std.proofs.Common.{◌≡◌, ℕ, zero, suc, ◌+◌, ◌<◌, ◌≤◌, Bool, true, false, ◌&&◌, ◌||◌, List, [], ◌∷◌, ◌++◌, map, take, drop, get_or, add-one, length, Option, Some, refl, sym, ap, subst, ◌∙◌, inl, inr, ◌⊎◌, arith, append_assoc, append-nil}
 use Rattle.std.proofs.Math.Seq.{drop-cons}
 use Rattle.std.proofs.lemmas.List.{drop_all}
 use Rattle.std.specs.List.{list_all}
@@ -94,8 +94,8 @@ module _ (s : Source) (nodes : Nodes) (ones : List Asked) (start : Option Text) 
     wrote = Wrote-then start now then so.text t so.wrote w;
     count = let c = so.count in omega arith;
     tells = λ rest y h.
-      subst (AllTell s nodes ones ((so.text ++ t) ++ rest)) (or-assoc stopped x y)
-      (subst (λ u. AllTell s nodes ones u (stopped || (x || y))) (sym (append_assoc so.text t rest)) (so.tells (t ++ rest) (x || y) (more_text t rest x y k h refl refl)));
+        subst (AllTell s nodes ones ((so.text ++ t) ++ rest)) (or-assoc stopped x y)
+        (subst (λ u. AllTell s nodes ones u (stopped || (x || y))) (sym (append_assoc so.text t rest)) (so.tells (t ++ rest) (x || y) (more_text t rest x y k h refl refl)));
     begins = λ rest h. subst (AllBegin s nodes ones) (sym (append_assoc so.text t rest)) (so.begins (t ++ rest) (behind t rest x k h refl));
   }
 

@@ -1,18 +1,16 @@
 -- What accepted queries ask, what they print one after another, and what the definitions say of it.
-use Rattle.std.proofs.Common.{◌≡◌, ℕ, suc, ◌+◌, ◌*◌, ◌≤◌, Bool, true, false, ◌||◌, MatchBool, IsTrue, ◌↔◌, ◌⊎◌, List, [], ◌∷◌, ◌++◌, map, length, drop, slice_get, sum_by, Option, Some, None, refl, sym, ap, subst, ◌∙◌, inl, inr, arith, append_assoc, append-nil}
+use Rattle.std.proofs.Common.{◌≡◌, ℕ, suc, ◌*◌, ◌≤◌, Bool, true, false, MatchBool, IsTrue, ◌↔◌, ◌⊎◌, List, [], ◌∷◌, ◌++◌, length, slice_get, sum_by, Option, Some, None, refl, sym, ap, subst, ◌∙◌, inl, inr, arith, append_assoc}
 use Rattle.std.specs.List.{list_any}
 use Rattle.std.proofs.lemmas.List.Sums.{sum_by-cons}
-use Rattle.std.proofs.lemmas.Bool.{true≢false}
 use Rattle.cb_model.specs.declared.Goal.{Goal}
 use Rattle.cb_model.specs.declared.Sort.{Sort}
-use Rattle.cb_model.specs.declared.Sort.TheVariants as sort
 use Rattle.cb_model.specs.Text.{Text, lines_text, IsPrefix}
 use Rattle.cb_model.specs.Bits.{Each}
 use Rattle.cb_model.specs.Commands.{Nodes}
-use Rattle.cb_model.specs.Grammar.{Form, Forms, Variable, Integer, Name, Closed, Open, Not, And, Xor, Or, FormClause, FormGoal, ACall, AnEqual, FormQuery}
+use Rattle.cb_model.specs.Grammar.{Form, Variable, Integer, Name, Closed, Open, Not, And, Xor, Or, FormClause, FormGoal, ACall, AnEqual, FormQuery}
 use Rattle.cb_model.specs.Written.{parts_of, goal_parts}
 use Rattle.cb_model.specs.Directives.{Declared, Sign, Refusal, SortClash, Unknown, heads}
-use Rattle.cb_model.specs.Sorts.{Body, Clash, Equation, Numbering, HasSort, apart_goal, apart_goals}
+use Rattle.cb_model.specs.Sorts.{Body, Clash, Numbering, apart_goal, apart_goals}
 use Rattle.cb_model.specs.Loading.{BodyRefusal, goal_unknown, query_body, module_names, AreGoals, no_goals, more_goals, HaveSorts, no_sorts, more_sorts}
 use Rattle.cb_model.specs.Program.{Program}
 use Rattle.cb_model.specs.Derivation.{Query}
@@ -131,15 +129,16 @@ all-can-be-told law cs s [] [] none_asked m = tt
 all-can-be-told law cs s [] (a ∷ ones) k m = elim k [ ]
 all-can-be-told law cs s (q ∷ qs) [] k m = elim k [ ]
 all-can-be-told law cs s (q ∷ qs) (a ∷ ones) (more_asked h hs) m =
-    let e = sum_by-cons (λ (q : FormQuery). sum_by goal_parts q.goals) q qs in
-    ((λ k. record {
-      es = k.0;
-      equations = k.1;
-      scope = (asked-reads law cs s q.goals a h).in_scope k.0 k.1;
-      sorted = ap length h.variables ∙ sorts-length h.sorts;
-      few = few-goals law cs s q.goals a h (omega arith) k.0 k.1;
-    }),
-    all-can-be-told law cs s qs ones hs (omega arith))
+    let e = sum_by-cons (λ (q : FormQuery). sum_by goal_parts q.goals) q qs in (
+      (λ k. record {
+        es = k.0;
+        equations = k.1;
+        scope = (asked-reads law cs s q.goals a h).in_scope k.0 k.1;
+        sorted = ap length h.variables ∙ sorts-length h.sorts;
+        few = few-goals law cs s q.goals a h (omega arith) k.0 k.1;
+      }),
+      all-can-be-told law cs s qs ones hs (omega arith),
+    )
 
 -- those that are of equations are told
 pub can-tell : (s : Source) (ones : List Asked) → Each (CanBeTold s) ones → Each IsOfEquations ones → Each (told.IsBoolean s) ones
@@ -193,10 +192,13 @@ module _ (meant : QueriesOverFile) (cs : List FormClause) (s : Source) (over : I
   all-tell (q ∷ qs) [] text stop k t = elim k [ ]
   all-tell (q ∷ qs) (a ∷ ones) text stop (more_asked h hs) (more_text first rest x y t ts e f) =
       let one = lines-of q.goals a first x h t in
-      let more = all-tell qs ones rest y hs ts in
-      (one.lines ++ more.0,
-      (more_queries one.p one.q one.names one.lines more.0 x y one.query one.tells more.1.0 refl f,
-      e ∙ ap (λ u. u ++ rest) one.is ∙ ap (λ u. lines_text one.lines ++ u) more.1.1 ∙ sym (lines-append one.lines more.0)))
+      let more = all-tell qs ones rest y hs ts in (
+        one.lines ++ more.0,
+        (
+          more_queries one.p one.q one.names one.lines more.0 x y one.query one.tells more.1.0 refl f,
+          e ∙ ap (λ u. u ++ rest) one.is ∙ ap (λ u. lines_text one.lines ++ u) more.1.1 ∙ sym (lines-append one.lines more.0),
+        ),
+      )
 
   pub all-begin : (qs : List FormQuery) (ones : List Asked) (text : Text) → AllAsk cs s qs ones → AllBegin s nodes ones text → QueriesBegin (without_circuits cs s.declared) resolutions nodes qs text
   all-begin qs ones text k (no_text_yet e) = run.none_yet e

@@ -16,7 +16,7 @@ use Rattle.cb_model.specs.Derivation.{Query}
 use Rattle.cb_model.specs.Line.{Names}
 use Rattle.cb_model.specs.Refusals.{Refused, refusal_line, unbuilt}
 use Rattle.cb_model.specs.Outside.{Rose, Wrote, bytes_named}
-use Rattle.cb_model.specs.Output.{Loaded, QueriesRefusal, ReadWhole, run_outcome, sort_refused}
+use Rattle.cb_model.specs.Output.{Loaded, QueriesRefusal, ReadWhole, run_outcome}
 use Rattle.cb_model.specs.Directives as dir
 use Rattle.cb_model.specs.Directives.{SortClash, Unknown}
 use Rattle.cb_directives.specs.declared.fault.LoadError.{LoadError}

@@ -1,4 +1,3 @@
-use Rattle.std.proofs.Common.{refl}
 use Rattle.cb_top.specs.Refusals.{read_refused}
 use Rattle.cb_top.proofs.Deciding.{clauses_few, unread-refused}
 use Rattle.cb_top.proofs.Running.{is-read, bytes-refused}

@@ -1,4 +1,4 @@
-use Rattle.std.proofs.Common.{◌≡◌, ◌≤◌, List, length, map, sym, subst}
+use Rattle.std.proofs.Common.{List, map, sym, subst}
 use Rattle.cb_model.specs.declared.RawQuery.{RawQuery}
 use Rattle.cb_model.specs.Forms.{query_form}
 use Rattle.cb_model.specs.Grammar.{ReadsQuery, Whole, IsReading}

@@ -1,4 +1,4 @@
-use Rattle.std.proofs.Common.{sym, subst, take}
+use Rattle.std.proofs.Common.{subst, take}
 use Rattle.cb_model.specs.Outside.{Wrote}
 use Rattle.cb_model.specs.Text.{Text}
 use Rattle.cb_top.specs.Words.{nodes_view}
