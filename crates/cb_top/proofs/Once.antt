@@ -51,7 +51,7 @@ no-fault file cs x r a (lexed ts f l) e = absurd (let p = (one_list a.lexes l).1
 no-fault file cs x r a (syntax_at ts k l w d n) e =
     let ts_are = (one_list a.lexes l).0 in
     let reads : ReadsAll ReadsClause ts cs = subst (λ us. ReadsAll ReadsClause us cs) ts_are a.reads in
-    w.wrong (drop (suc k) ts, (cs, subst (λ us. ReadsAll ReadsClause us cs) (sym (take-append-drop (suc k) ts)) reads))
+    w.wrong (drop (suc k) ts, cs, subst (λ us. ReadsAll ReadsClause us cs) (sym (take-append-drop (suc k) ts)) reads)
 no-fault file cs x r a (deep_at ts k l w g n) e =
     below (nestings (0 ∷ []) ts) k (subst (λ us. All (λ n. n < 257) (nestings (0 ∷ []) us)) (one_list a.lexes l).0 a.shallow) w.deep
 no-fault file cs x r a (unfinished ts l g n d m) e = n cs (subst (λ us. ReadsAll ReadsClause us cs) (one_list a.lexes l).0 a.reads)
@@ -77,13 +77,14 @@ fact-not c t f = true≢false (sym t ∙ f)
 
 -- rules are refused or not
 rules-not : {d : Declared} {hs : List Sign} {ms : List (Option Text)} {cs : List FormClause} {e : Refusal × ℕ} → RulesRefusal d hs ms cs None → RulesRefusal d hs ms cs (Some e) → ⊥
+rules-not none k = elim k [ ]
 rules-not (skip t h) (skip u k) = rules-not h k
 rules-not (skip t h) (directive k) = absurd (cc)
-rules-not (skip t h) (passes f b k) = fact-not _ t f
-rules-not (skip t h) (refused f b) = fact-not _ t f
+rules-not (skip {c = c} t h) (passes f b k) = fact-not c t f
+rules-not (skip {c = c} t h) (refused f b) = fact-not c t f
 rules-not (directive h) (skip u k) = absurd (cc)
 rules-not (directive h) (directive k) = rules-not h k
-rules-not (passes f b h) (skip u k) = fact-not _ u f
+rules-not (passes f b h) (skip {c = c} u k) = fact-not c u f
 rules-not (passes f b h) (passes g c k) = rules-not h k
 rules-not {d} {hs} {ms} (passes {f = x} {gs = gs} f b h) (refused {r = r} g c) = body-not d hs ms (body_of x gs) r b c
 

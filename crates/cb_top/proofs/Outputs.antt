@@ -133,7 +133,7 @@ run-ends : (file : Text) (cs : List FormClause) (resolutions : ℕ) (nodes : Nod
     TaskEnds (Running resolutions nodes) o
 run-ends file cs resolutions nodes input lines o (runs.with_facts a h) = refused-ends (Running resolutions nodes) unbuilt lines o (λ (p : 99 ≡ 19). omega arith) h
 run-ends file cs resolutions nodes input lines o (asked l i (runs.refused r a h)) = refused-ends (Running resolutions nodes) r lines o (input-number l input r a) h
-run-ends file cs resolutions nodes input lines o (asked l i (not_boolean qs q a k b h)) = refused-ends (Running resolutions nodes) unbuilt lines o (λ (p : 99 ≡ 19). omega arith) h
+run-ends file cs resolutions nodes input lines o (asked l i (not_boolean qs a k h)) = refused-ends (Running resolutions nodes) unbuilt lines o (λ (p : 99 ≡ 19). omega arith) h
 run-ends file cs resolutions nodes input lines o (asked l i (ran qs stop a b h e)) = record {
   ends = subst IsDecided (sym e) (decided stop);
   other = λ p. other stop (sym e ∙ p);
@@ -196,6 +196,7 @@ told_or (Some x) = x
 
 pub usage-answers : (files : Option (List (Text × Text))) (c : Option Command) (text : Text) (o : Outcome) → None ≡ c → text ≡ USAGE.now → o ≡ outcome.Refused 19 → Answers files c text o
 usage-answers files c text o n t e = subst (λ k. Answers files k text o) n (record {
+  no_run = λ h. h;
   file = [];
   file_told = λ list p. refl;
   lines = refusal_line usage ∷ [];
@@ -204,25 +205,26 @@ usage-answers files c text o n t e = subst (λ k. Answers files k text o) n (rec
 })
 
 -- what isn't built is refused over every file and input
-pub unbuilt-answers : (files : Option (List (Text × Text))) (c : Option Command) (text : Text) (o : Outcome) → ((file input : Text) → CommandSays c file input (refusal_line unbuilt ∷ []) o) →
-    text ≡ lines_text (refusal_line unbuilt ∷ []) → Answers files c text o
-unbuilt-answers files c text o says t = record {
-  file = told_bytes files c;
-  file_told = λ list p. ap (λ f. told_bytes f c) p;
+pub unbuilt-answers : (files : Option (List (Text × Text))) (c : Option Command) (k : Command) (text : Text) (o : Outcome) → Some k ≡ c → (IsRun (Some k) → ⊥) →
+    ((file input : Text) → CommandSays (Some k) file input (refusal_line unbuilt ∷ []) o) → text ≡ lines_text (refusal_line unbuilt ∷ []) → Answers files c text o
+unbuilt-answers files c k text o e n says t = subst (λ x. Answers files x text o) e (record {
+  no_run = n;
+  file = told_bytes files (Some k);
+  file_told = λ list p. ap (λ f. told_bytes f (Some k)) p;
   lines = refusal_line unbuilt ∷ [];
-  says = says (told_bytes files c);
+  says = says (told_bytes files (Some k));
   is = t;
-}
+})
 
 pub verify-answers : (files : Option (List (Text × Text))) (c : Option Command) (file name : Text) (nodes : Nodes) (text : Text) (o : Outcome) → Some (Verify file name nodes) ≡ c →
     FileAnswers files (Comparing name nodes) file text o → Answers files c text o
 verify-answers files c file name nodes text o e h =
-    subst (λ k. Answers files k text o) e (record { file = h.bytes; file_told = h.bytes_told; lines = h.decides.lines; says = h.decides.says; is = h.decides.is })
+    subst (λ k. Answers files k text o) e (record { no_run = λ h. h; file = h.bytes; file_told = h.bytes_told; lines = h.decides.lines; says = h.decides.says; is = h.decides.is })
 
 pub check-answers : (files : Option (List (Text × Text))) (c : Option Command) (file : Text) (text : Text) (o : Outcome) → Some (Check file) ≡ c →
     FileAnswers files Checking file text o → Answers files c text o
 check-answers files c file text o e h =
-    subst (λ k. Answers files k text o) e (record { file = h.bytes; file_told = h.bytes_told; lines = h.decides.lines; says = h.decides.says; is = h.decides.is })
+    subst (λ k. Answers files k text o) e (record { no_run = λ h. h; file = h.bytes; file_told = h.bytes_told; lines = h.decides.lines; says = h.decides.says; is = h.decides.is })
 
 long-answers : (files : Option (List (Text × Text))) (task : Task) (file bytes : Text) (text : Text) (o : Outcome) → ((list : List (Text × Text)) → files ≡ Some list → bytes ≡ bytes_named list file) →
     4194304 < length bytes → text ≡ FILE_TOO_LONG.now → o ≡ outcome.Refused 20 → FileAnswers files task file text o
@@ -272,9 +274,9 @@ takes-none (Some (Same f x y k)) file bytes left n e = e
 takes-none (Some (Make b k)) file bytes left n e = e
 
 module _ (files : Option (List (Text × Text))) (words : List Text) (told before after : Option Text) where
-  finish-prints : (text : Text) (wanted result : Outcome) (faults now : ℕ) → (IsRun (command_of words) → ⊥) →
+  finish-prints : (text : Text) (wanted result : Outcome) (faults now : ℕ) →
       Answers files (command_of words) text wanted → Finishes before after faults now text wanted result → Prints words files told told before after result
-  finish-prints text wanted result faults now n a (whole e w) = record {
+  finish-prints text wanted result faults now a (whole e w) = record {
     file = a.file;
     file_told = a.file_told;
     input = told_or told;
@@ -284,9 +286,9 @@ module _ (files : Option (List (Text × Text))) (words : List Text) (told before
       (appends-whole words a.file (told_or told) text wanted (says-outcome (command_of words) a.file (told_or told) a.lines wanted (a.says (told_or told))).ends
       (record { lines = a.lines; says = a.says (told_or told); is = a.is }));
     wrote = w;
-    takes = λ bytes p d. takes-none (command_of words) a.file bytes told n p;
+    takes = λ bytes p d. takes-none (command_of words) a.file bytes told a.no_run p;
   }
-  finish-prints text wanted result faults now n a (broken k e w r) = record {
+  finish-prints text wanted result faults now a (broken k e w r) = record {
     file = a.file;
     file_told = a.file_told;
     input = told_or told;
@@ -295,7 +297,7 @@ module _ (files : Option (List (Text × Text))) (words : List Text) (told before
     appends = subst (Appends words a.file (told_or told) (take k text)) (sym e)
       (begins text wanted (record { lines = a.lines; says = a.says (told_or told); is = a.is }) (prefix-of k text));
     wrote = w;
-    takes = λ bytes p d. takes-none (command_of words) a.file bytes told n p;
+    takes = λ bytes p d. takes-none (command_of words) a.file bytes told a.no_run p;
   }
 
 -- nothing is a beginning of every output
@@ -361,13 +363,13 @@ pub record Finished (files : Option (List (Text × Text))) (words : List Text) (
   pub fault : (s : Side) → result ≡ outcome.Fault s → (s ≡ side.Output) × Rose faults now
 
 pub finished : (files : Option (List (Text × Text))) (words : List Text) (c : Option Command) (bytes text : Text) (wanted result : Outcome) (told before after : Option Text) (faults now : ℕ) → c ≡ command_of words →
-    (IsRun c → ⊥) → bytes ≡ text → Answers files c text wanted → Finishes before after faults now bytes wanted result → Finished files words result told before after faults now
-finished files words c bytes text wanted result told before after faults now ce n e a f =
+    bytes ≡ text → Answers files c text wanted → Finishes before after faults now bytes wanted result → Finished files words result told before after faults now
+finished files words c bytes text wanted result told before after faults now ce e a f =
     let k : Finishes before after faults now text wanted result = subst (λ t. Finishes before after faults now t wanted result) e f in
     let b : Answers files (command_of words) text wanted = subst (λ x. Answers files x text wanted) ce a in
     let u = finish-usage files (command_of words) text wanted result before after faults now b k in
     record {
-      prints = finish-prints files words told before after text wanted result faults now (subst (λ x. IsRun x → ⊥) ce n) b k;
+      prints = finish-prints files words told before after text wanted result faults now b k;
       usage = record { refuses = u.refuses; only = u.only };
       stopped = finish-stops files (command_of words) text wanted result before after faults now b k;
       fault = finish-fault files (command_of words) text wanted result before after faults now b k;

@@ -1,5 +1,5 @@
 -- What is written over an input and over a file, and how the run ends.
-use Rattle.std.proofs.Common.{◌≡◌, ◌⊎◌, ℕ, ◌<◌, ◌≤◌, Bool, true, false, List, [], ◌∷◌, ◌++◌, take, drop, length, codes, Option, Some, None, refl, sym, ap, subst, ◌∙◌, inl, inr, arith}
+use Rattle.std.proofs.Common.{◌≡◌, ◌⊎◌, ℕ, ◌<◌, ◌≤◌, Bool, true, false, List, [], ◌∷◌, ◌++◌, take, drop, length, codes, map, Option, Some, None, refl, sym, ap, subst, ◌∙◌, inl, inr, arith}
 use Rattle.std.specs.List.{list_any}
 use Rattle.std.proofs.lemmas.Option.{same_Some}
 use Rattle.cb_model.specs.declared.Outcome.{Outcome}
@@ -9,7 +9,11 @@ use Rattle.cb_model.specs.declared.Side.TheVariants as side
 use Rattle.cb_model.specs.Text.{Text, lines_text, IsPrefix}
 use Rattle.cb_model.specs.Bits.{Each}
 use Rattle.cb_model.specs.Commands.{Command, Run, Nodes, command_of, file_name}
-use Rattle.cb_model.specs.Grammar.{FormClause, FormQuery, Whole, Lexed, Syntax, Unfinished, Deep, ReadsQuery, IsReading}
+use Rattle.cb_model.specs.Grammar.{FormClause, FormQuery, Whole, Lexed, Syntax, Unfinished, Deep, ReadsClause, ReadsQuery, IsReading}
+use Rattle.cb_model.specs.declared.RawClause.{RawClause}
+use Rattle.cb_model.specs.declared.RawQuery.{RawQuery}
+use Rattle.cb_model.specs.Forms.{clause_form, query_form}
+use Rattle.cb_model.specs.Written.{AreQueries}
 use Rattle.cb_model.specs.Loading.{is_fact}
 use Rattle.cb_model.specs.Directives as dir
 use Rattle.cb_model.specs.Directives.{Declared, SortClash, Unknown}
@@ -24,25 +28,26 @@ use Rattle.cb_lex.specs.Faults.{fault_of}
 use Rattle.cb_syntax.specs.declared.texts.ReadError.{ReadError}
 use Rattle.cb_syntax.specs.declared.texts.ReadError.TheVariants as error
 use Rattle.cb_syntax.specs.Readings.{IsRefused}
+use Rattle.cb_host.specs.Host as host
 use Rattle.cb_host.specs.Host.{IfTold, HasLength, ReadsAll}
 use Rattle.cb_host.specs.declared.Load.TheVariants as load
 use Rattle.cb_equations.specs.Scope.{EquationsRead}
-use Rattle.cb_sorts.specs.Source.{Source}
+use Rattle.cb_sorts.specs.Source.{Source, Loads}
 use Rattle.cb_sorts.specs.OverFile.{QueriesOverFile}
 use Rattle.cb_sorts.specs.Asked.{Asked}
 use Rattle.cb_top.specs.declared.refusals.Whose.TheVariants as whose
 use Rattle.cb_top.specs.Refusals.{read_refused, load_refused, placed_in}
 use Rattle.cb_top.specs.Answers as fin
-use Rattle.cb_top.specs.Answers.{Finishes, without_circuits}
+use Rattle.cb_top.specs.Answers.{Finishes, IsSomeRefusal, without_circuits}
 use Rattle.cb_top.specs.Built.{FileRefused, IsRead, AreAccepted, Running, CommandSays, Output, OutputBegins, TakesBy, file_bytes, bytes_or}
 use Rattle.cb_top.specs.Built as built
 use Rattle.cb_top.specs.Run.{Holds, IsAccepted, AsksBooleans, Asking}
 use Rattle.cb_top.specs.Run as run
-use Rattle.cb_top.specs.Running.{Refusing, RefusingSome, line, no_line, Writes, whole, broken, AllTell, AllBegin, AskedRun, not_boolean, told, IsOfEquations, IsOver, AllAsk, RefusesQueries, InputDecides, InputBegins, nothing_yet, begins, so_far, InputWrites, IsInput, ProgramRun, read, input_failed, input_wanting, BytesRun, bytes_wanting, FileRun, over, file_failed, file_wanting}
+use Rattle.cb_top.specs.Running.{Refusing, RefusingSome, line, no_line, Writes, whole, broken, AllTell, AllBegin, BreaksAfter, AskedRun, not_boolean, told, IsOfEquations, IsOver, AllAsk, RefusesQueries, InputDecides, InputBegins, nothing_yet, begins, so_far, InputWrites, IsInput, ProgramRun, read, input_failed, input_wanting, BytesRun, bytes_wanting, FileRun, over, file_failed, file_wanting}
 use Rattle.cb_top.specs.Running as ran
 use Rattle.cb_top.specs.Top.{Appends, Prints, IsDecided, IsRun, MayStop}
 use Rattle.cb_top.proofs.Counts.{read_none}
-use Rattle.cb_top.proofs.Outputs as outputs
+use Rattle.cb_top.proofs.Deciding.{in_file, some_refusal}
 use Rattle.cb_top.proofs.Outputs.{prefix-of, appends-whole, says-outcome, some-none, told_or, nothing-prints}
 use Rattle.cb_top.proofs.Telling.{equations-of, booleans-of, all-tell, all-begin}
 use Rattle.cb_top.proofs.Once.{refused-holds-not, facts-hold-not}
@@ -60,7 +65,41 @@ map-writes f g (whole t h w) = whole t (f t _ h) w
 map-writes f g (broken t h e r w) = broken t (g t h) e r w
 map-writes f g (ran.wanting t h e w) = ran.wanting t (g t h) e w
 
+-- the line of a refusal that is there
+pub refused-line : {before after : Option Text} {faults now : ℕ} {result : Outcome} (q : Option Refused) (text bytes : Text) (wanted : Outcome) → IsSomeRefusal q text wanted → bytes ≡ text →
+    Finishes before after faults now bytes wanted result → RefusingSome q before after faults now result
+refused-line {before} {after} {faults} {now} {result} q text bytes wanted h e f =
+    let p = some_refusal q text wanted h in
+    line p.0 p.1
+    (subst (λ o. Finishes before after faults now (lines_text (refusal_line p.0 ∷ [])) o result) p.2.outcome
+    (subst (λ t. Finishes before after faults now t wanted result) (e ∙ p.2.line) f))
+
+-- what was written where the telling broke off
+pub breaks-writes : {W : Text → Outcome → Type 0} {B : Text → Type 0} {before after : Option Text} {faults now : ℕ} {result : Outcome} → BreaksAfter B before after faults now result →
+    Writes W B before after faults now result
+breaks-writes {W} {B} {before} {after} {faults} {now} {result} b = by_cause b.cause
+  where
+    by_cause : (result ≡ outcome.Memory) ⊎ ((result ≡ outcome.Fault side.Output) × Rose faults now) → Writes W B before after faults now result
+    by_cause (inl e) = ran.wanting b.text b.beginning e b.wrote
+    by_cause (inr e) = broken b.text b.beginning e.0 e.1 b.wrote
+
 -- ---- over an input
+
+-- the refusals of an input, with `query` before their places
+unread-input : (l : Loaded) (input : Text) (e : ReadError) (r : Refused) → length input ≤ 1048576 → IsRefused ReadsQuery input e → Some r ≡ read_refused e → InputRefused l input (record r { place = codes "query " ++ r.place })
+unread-input l input (error.Lex f) r short h t = model.unread (Lexed (fault_of f)) short h (sym t)
+unread-input l input (error.Syntax n) r short h t = model.unread (Syntax n) short h (sym t)
+unread-input l input (error.Unfinished n) r short h t = model.unread (Unfinished n) short h (sym t)
+unread-input l input (error.Deep n) r short h t = model.unread (Deep n) short h (sym t)
+unread-input l input error.Memory r short h t = absurd (some-none r t)
+
+unsorted-input : (l : Loaded) (input : Text) (qs : List FormQuery) (e : LoadError) (r : Refused) → length input ≤ 1048576 → IsReading ReadsQuery input (Whole qs) → RefusesQueries l qs e → Some r ≡ load_refused e →
+    InputRefused l input (record r { place = codes "query " ++ r.place })
+unsorted-input l input qs (fault.Directive n) r short i h t = absurd h
+unsorted-input l input qs (fault.SortClash n) r short i h t = model.sorts qs (SortClash, n) short i h (same_Some r (sort_refused (SortClash, n)) t)
+unsorted-input l input qs (fault.Unknown n) r short i h t = model.sorts qs (Unknown, n) short i h (same_Some r (sort_refused (Unknown, n)) t)
+unsorted-input l input qs (fault.Twice n) r short i h t = model.sorts qs (dir.Twice, n) short i h (same_Some r (sort_refused (dir.Twice, n)) t)
+unsorted-input l input qs fault.Memory r short i h t = absurd (some-none r t)
 
 module _ {l : Loaded} {resolutions : ℕ} {nodes : Nodes} {input : Text} {before after : Option Text} {faults now : ℕ} {result : Outcome} where
   -- what is decided is written
@@ -78,32 +117,17 @@ module _ {l : Loaded} {resolutions : ℕ} {nodes : Nodes} {input : Text} {before
   placed-writes (Some q) f (line r e h) = refused-writes r (subst (InputRefused l input) (sym (same_Some r _ e)) (f q refl)) h
   placed-writes q f (no_line e w) = ran.wanting [] (nothing_yet refl) e w
 
-  unread-input : (e : ReadError) (r : Refused) → length input ≤ 1048576 → IsRefused ReadsQuery input e → Some r ≡ read_refused e → InputRefused l input (record r { place = codes "query " ++ r.place })
-  unread-input (error.Lex f) r short h t = model.unread (Lexed (fault_of f)) short h (sym t)
-  unread-input (error.Syntax n) r short h t = model.unread (Syntax n) short h (sym t)
-  unread-input (error.Unfinished n) r short h t = model.unread (Unfinished n) short h (sym t)
-  unread-input (error.Deep n) r short h t = model.unread (Deep n) short h (sym t)
-  unread-input error.Memory r short h t = absurd (some-none r t)
-
-  unsorted-input : (qs : List FormQuery) (e : LoadError) (r : Refused) → length input ≤ 1048576 → IsReading ReadsQuery input (Whole qs) → RefusesQueries l qs e → Some r ≡ load_refused e →
-      InputRefused l input (record r { place = codes "query " ++ r.place })
-  unsorted-input qs (fault.Directive n) r short i h t = absurd h
-  unsorted-input qs (fault.SortClash n) r short i h t = model.sorts qs (SortClash, n) short i h (same_Some r (sort_refused (SortClash, n)) t)
-  unsorted-input qs (fault.Unknown n) r short i h t = model.sorts qs (Unknown, n) short i h (same_Some r (sort_refused (Unknown, n)) t)
-  unsorted-input qs (fault.Twice n) r short i h t = model.sorts qs (dir.Twice, n) short i h (same_Some r (sort_refused (dir.Twice, n)) t)
-  unsorted-input qs fault.Memory r short i h t = absurd (some-none r t)
-
   -- where the input isn't read
   pub writes-unread : (e : ReadError) (q : Option Refused) → length input ≤ 1048576 → IsRefused ReadsQuery input e → q ≡ placed_in whose.Query (read_refused e) → RefusingSome q before after faults now result →
       InputWrites l resolutions nodes input before after faults now result
   writes-unread e q short h t k =
-      placed-writes (read_refused e) (λ r p. unread-input e r short h p) (subst (λ x. RefusingSome x before after faults now result) t k)
+      placed-writes (read_refused e) (λ r p. unread-input l input e r short h p) (subst (λ x. RefusingSome x before after faults now result) t k)
 
   -- where a query is refused
   pub writes-unsorted : (qs : List FormQuery) (e : LoadError) (q : Option Refused) → length input ≤ 1048576 → IsReading ReadsQuery input (Whole qs) → RefusesQueries l qs e →
       q ≡ placed_in whose.Query (load_refused e) → RefusingSome q before after faults now result → InputWrites l resolutions nodes input before after faults now result
   writes-unsorted qs e q short i h t k =
-      placed-writes (load_refused e) (λ r p. unsorted-input qs e r short i h p) (subst (λ x. RefusingSome x before after faults now result) t k)
+      placed-writes (load_refused e) (λ r p. unsorted-input l input qs e r short i h p) (subst (λ x. RefusingSome x before after faults now result) t k)
 
   -- where the input is too long
   pub writes-long : 1048576 < length input → Refusing (record { number = 20; place = []; text = codes "input too long" }) before after faults now result →
@@ -124,6 +148,17 @@ writes-asked meant law cs s resolutions nodes input qs ones o i h (told bools w)
 
 -- ---- the input
 
+more-queries : (n : ℕ) (qs : List FormQuery) → n ≤ 1048576 → AreQueries n qs → AreQueries 1048576 qs
+more-queries n qs h w =
+    let a = w.few in
+    let b = w.few_goals in
+    let c = w.few_terms in
+    record { written = w.written; few = omega arith; few_goals = omega arith; few_terms = omega arith }
+
+-- the queries of an input that isn't too long are few enough
+pub queries-few : (n : ℕ) (xs ys : List RawQuery) → ys ≡ xs → n ≤ 1048576 → AreQueries n (map query_form xs) → AreQueries 1048576 (map query_form ys)
+queries-few n xs ys e h w = subst (λ l. AreQueries 1048576 (map query_form l)) (sym e) (more-queries n (map query_form xs) h w)
+
 -- an input that was read to its end
 pub input-done : (told left : Option Text) (into : Text) → IfTold told (λ bytes. ReadsAll bytes 1048576 load.Done left into) → IsInput told left into
 input-done None left into h = record { is = λ bytes p. absurd (some-none bytes (sym p)); taken = λ bytes p. absurd (some-none bytes (sym p)) }
@@ -136,6 +171,24 @@ input-long None left into h l = (into, omega arith, record { is = λ bytes p. ab
 input-long (Some x) left into h l = (x, h.0, record { is = λ bytes p. same_Some x bytes p; taken = λ bytes p. inr (h.1.1 ∙ ap (λ y. Some (drop 1048577 y)) (same_Some x bytes p)) })
 
 -- ---- the file
+
+-- a file that was loaded whole
+pub file-done : (files : Option (List (Text × Text))) (file into slice : Text) → IfTold files (λ fs. host.Loads (bytes_named fs file) 4194304 load.Done into) → slice ≡ into →
+    (list : List (Text × Text)) → files ≡ Some list → slice ≡ bytes_named list file
+file-done None file into slice h e list p = absurd (some-none list (sym p))
+file-done (Some fs) file into slice h e list p = e ∙ h.1 ∙ ap (λ x. bytes_named x file) (same_Some fs list p)
+
+pub is-read : (file : Text) (xs ys : List RawClause) → length file ≤ 4194304 → ys ≡ xs → IsReading ReadsClause file (Whole (map clause_form xs)) → IsRead file (map clause_form ys)
+is-read file xs ys h e r = record { short = h; reading = subst (λ zs. IsReading ReadsClause file (Whole (map clause_form zs))) (sym e) r }
+
+pub accepted-of : (cs : List FormClause) (s : Source) → Loads cs s → AreAccepted cs s.declared
+accepted-of cs s l = record { declares = l.declares; rules = l.rules }
+
+-- where the file is refused
+pub bytes-refused : {file : Text} {resolutions : ℕ} {nodes : Nodes} {told : Option Text} {risen reached : ℕ} {before after : Option Text} {faults now : ℕ} {result : Outcome} (p q : Option Refused) → p ≡ placed_in whose.File q →
+    ((r : Refused) → Some r ≡ q → FileRefused file r) → RefusingSome p before after faults now result → BytesRun file resolutions nodes told told risen reached before after faults now result
+bytes-refused p q e f (line r t k) = ran.refused r (f r (t ∙ e ∙ in_file q)) refl k
+bytes-refused p q e f (no_line m w) = bytes_wanting m w
 
 -- the clauses of an accepted file without facts
 pub holds-of : (file : Text) (cs : List FormClause) (d : Declared) → IsRead file cs → AreAccepted cs d → list_any is_fact cs ≡ false → Holds file cs (without_circuits cs d)

@@ -1,5 +1,5 @@
 -- The loops over queries: what is asked and told so far.
-use Rattle.std.proofs.Common.{◌≡◌, ℕ, zero, suc, ◌+◌, ◌-◌, ◌^◌, ◌<◌, ◌≤◌, min, Bool, true, false, ◌&&◌, ◌||◌, List, [], ◌∷◌, ◌++◌, map, take, drop, get_or, add-one, length, Option, Some, None, refl, sym, ap, subst, ◌∙◌, inl, inr, arith, append_assoc, append-nil}
+use Rattle.std.proofs.Common.{◌≡◌, ℕ, zero, suc, ◌+◌, ◌-◌, ◌^◌, ◌<◌, ◌≤◌, min, Bool, true, false, ◌&&◌, ◌||◌, List, [], ◌∷◌, ◌++◌, map, take, drop, get_or, add-one, length, Option, Some, None, refl, sym, ap, subst, ◌∙◌, inl, inr, ◌⊎◌, arith, append_assoc, append-nil}
 use Rattle.std.proofs.Math.Seq.{drop-cons}
 use Rattle.std.proofs.lemmas.List.{drop_all}
 use Rattle.std.specs.List.{list_all}
@@ -39,8 +39,8 @@ pub record AskedSoFar (cs : List FormClause) (s : Source) (qs left : List FormQu
   pub asks : (more : List Asked) → AllAsk cs s left more → AllAsk cs s qs (ones ++ more)
   pub refusal : (r : Option (Refusal × ℕ)) → QueriesRefusal (without_circuits cs s.declared) left r → QueriesRefusal (without_circuits cs s.declared) qs r
 
-pub asked-none : (cs : List FormClause) (s : Source) (qs : List FormQuery) → AskedSoFar cs s qs qs []
-asked-none cs s qs = record { asks = λ more h. h; refusal = λ r h. h }
+pub asked-none : (cs : List FormClause) (s : Source) (qs : List FormQuery) (ones : List Asked) → ones ≡ [] → AskedSoFar cs s qs qs ones
+asked-none cs s qs ones e = subst (AskedSoFar cs s qs qs) (sym e) (record { asks = λ more h. h; refusal = λ r h. h })
 
 pub asked-more : (cs : List FormClause) (s : Source) (qs : List FormQuery) (q : FormQuery) (left : List FormQuery) (ones : List Asked) (a : Asked) → AskedSoFar cs s qs (q ∷ left) ones →
     Asks s.declared (heads cs) s.names (module_names cs) q.goals a → AskedSoFar cs s qs left (ones ++ a ∷ [])
@@ -112,7 +112,7 @@ module _ (s : Source) (nodes : Nodes) (ones : List Asked) (start : Option Text) 
     cause = by_cause b.cause;
   }
     where
-      by_cause : _ → _
+      by_cause : (o ≡ outcome.Memory) ⊎ ((o ≡ outcome.Fault side.Output) × Rose counted more) → (o ≡ outcome.Memory) ⊎ ((o ≡ outcome.Fault side.Output) × Rose faults more)
       by_cause (inl e) = inl e
       by_cause (inr e) = inr (e.0, rose-more counted faults more so.count e.1)
 
@@ -170,6 +170,27 @@ pub asked-refused : (cs : List FormClause) (s : Source) (raw : List RawQuery) (x
     RefusesBody s.declared (heads cs) (module_names cs) (query_body (query_form x).goals) x.line e → RefusesQueries (without_circuits cs s.declared) (map query_form raw) e
 asked-refused cs s raw x i ones e h at so k = refuses-one cs s (map query_form raw) (query_form x) (map query_form (drop (i + 1) raw)) ones e (ahead cs s raw x i ones h at so) k
 
-pub asked-end : (cs : List FormClause) (s : Source) (raw : List RawQuery) (i : ℕ) (ones : List Asked) → (i < length raw → ⊥) → AskedAt cs s raw i ones → AllAsk cs s (map query_form raw) ones
+pub asked-end : (cs : List FormClause) (s : Source) (raw : List RawQuery) (i : ℕ) (ones : List Asked) → length raw ≤ i → AskedAt cs s raw i ones → AllAsk cs s (map query_form raw) ones
 asked-end cs s raw i ones n so =
-    asked-all cs s (map query_form raw) ones (subst (λ qs. AskedSoFar cs s (map query_form raw) (map query_form qs) ones) (drop_all i raw (omega arith)) so)
+    asked-all cs s (map query_form raw) ones (subst (λ qs. AskedSoFar cs s (map query_form raw) (map query_form qs) ones) (drop_all i raw n) so)
+
+-- what is told before the i-th query
+module _ (s : Source) (nodes : Nodes) (ones : List Asked) (start : Option Text) (faults : ℕ) (a : Asked) (i : ℕ) (now then : Option Text) (counted more : ℕ) (stopped : Bool) where
+  abbrev ToldAt : ℕ → Option Text → ℕ → Bool → Type 0
+  ToldAt k now counted stopped = ToldSoFar s nodes ones (drop k ones) start now faults counted stopped
+
+  onward : i < length ones → a ≡ get_or ones i a → ToldAt i now counted stopped → ToldSoFar s nodes ones (a ∷ drop (i + 1) ones) start now faults counted stopped
+  onward h at so = subst (λ left. ToldSoFar s nodes ones left start now faults counted stopped) (next-of ones a i h at) so
+
+  pub told-on : (x : Bool) → i < length ones → a ≡ get_or ones i a → ToldAt i now counted stopped → (text : Text) × (TellsAsked s nodes a text x × Wrote now then text) → counted ≤ more →
+      ToldAt (i + 1) then more (stopped || x)
+  told-on x h at so t m = told-more s nodes ones start faults a (drop (i + 1) ones) now then counted more stopped x t.0 (onward h at so) t.1.0 t.1.1 m
+
+  pub told-off : (o : Outcome) → i < length ones → a ≡ get_or ones i a → ToldAt i now counted stopped → BreaksAfter (λ text. (rest : List Asked) → AllBegin s nodes (a ∷ rest) text) now then counted more o →
+      BreaksAfter (AllBegin s nodes ones) start then faults more o
+  told-off o h at so b = told-breaks s nodes ones start faults a (drop (i + 1) ones) now then counted more stopped o (onward h at so) b
+
+pub told-end : (s : Source) (nodes : Nodes) (ones : List Asked) (start now : Option Text) (faults counted : ℕ) (i : ℕ) (stopped : Bool) → length ones ≤ i →
+    ToldSoFar s nodes ones (drop i ones) start now faults counted stopped → (text : Text) × (AllTell s nodes ones text stopped × Wrote start now text)
+told-end s nodes ones start now faults counted i stopped h so =
+    told-all s nodes ones start faults now counted stopped (subst (λ left. ToldSoFar s nodes ones left start now faults counted stopped) (drop_all i ones h) so)

@@ -1,5 +1,5 @@
 -- What accepted queries ask, what they print one after another, and what the definitions say of it.
-use Rattle.std.proofs.Common.{◌≡◌, ℕ, suc, ◌+◌, ◌*◌, ◌≤◌, Bool, true, false, ◌||◌, MatchBool, List, [], ◌∷◌, ◌++◌, map, length, drop, slice_get, sum_by, Option, Some, None, refl, sym, ap, subst, ◌∙◌, inl, inr, arith, append_assoc, append-nil}
+use Rattle.std.proofs.Common.{◌≡◌, ℕ, suc, ◌+◌, ◌*◌, ◌≤◌, Bool, true, false, ◌||◌, MatchBool, IsTrue, ◌↔◌, ◌⊎◌, List, [], ◌∷◌, ◌++◌, map, length, drop, slice_get, sum_by, Option, Some, None, refl, sym, ap, subst, ◌∙◌, inl, inr, arith, append_assoc, append-nil}
 use Rattle.std.specs.List.{list_any}
 use Rattle.std.proofs.lemmas.List.Sums.{sum_by-cons}
 use Rattle.std.proofs.lemmas.Bool.{true≢false}
@@ -13,10 +13,11 @@ use Rattle.cb_model.specs.Grammar.{Form, Forms, Variable, Integer, Name, Closed,
 use Rattle.cb_model.specs.Written.{parts_of, goal_parts}
 use Rattle.cb_model.specs.Directives.{Declared, Sign, Refusal, SortClash, Unknown, heads}
 use Rattle.cb_model.specs.Sorts.{Body, Clash, Equation, Numbering, HasSort, apart_goal, apart_goals}
-use Rattle.cb_model.specs.Loading.{BodyRefusal, goal_unknown, query_body, module_names, AreGoals, no_goals, more_goals}
+use Rattle.cb_model.specs.Loading.{BodyRefusal, goal_unknown, query_body, module_names, AreGoals, no_goals, more_goals, HaveSorts, no_sorts, more_sorts}
 use Rattle.cb_model.specs.Program.{Program}
 use Rattle.cb_model.specs.Derivation.{Query}
 use Rattle.cb_model.specs.Line.{Names}
+use Rattle.cb_model.specs.Output as model
 use Rattle.cb_model.specs.Output.{Loaded, IsQuery, QueriesRefusal, passes}
 use Rattle.cb_laws.specs.Laws.{Equal}
 use Rattle.cb_equations.specs.Scope.{AreEquations, EquationsRead, IsBoolean, IsBooleanEquation, Reads}
@@ -32,14 +33,17 @@ use Rattle.cb_top.specs.Running.{TellsAsked, AllTell, no_text, more_text, AllBeg
 
 -- ---- what a query asks
 
+abbrev no_refusal : Option Refusal
+no_refusal = None
+
+agrees : (b : Bool) (C : Type 0) → MatchBool b (no_refusal ≡ Some Unknown) ((C × (no_refusal ≡ Some SortClash)) ⊎ ((C → ⊥) × (no_refusal ≡ None))) → C → ⊥
+agrees true C e k = absurd (cc)
+agrees false C (inl p) k = absurd (let x = p.1 in cc)
+agrees false C (inr p) k = p.0 k
+
 -- a query that is not refused has no clash
 no-clash : (d : Declared) (hs : List Sign) (ms : List (Option Text)) (gs : List FormGoal) → BodyRefusal d hs ms (query_body gs) None → Clash d (query_body gs) → ⊥
-no-clash d hs ms gs h = by_bool (list_any (goal_unknown d hs ms) (query_body gs).goals) h
-  where
-    by_bool : (b : Bool) → MatchBool b (None ≡ Some Unknown) (_) → Clash d (query_body gs) → ⊥
-    by_bool true e k = absurd (let x : None ≡ Some Unknown = e in cc)
-    by_bool false (inl p) k = absurd (let x : None ≡ Some SortClash = p.1 in cc)
-    by_bool false (inr p) k = p.0 k
+no-clash d hs ms gs h = agrees (list_any (goal_unknown d hs ms) (query_body gs).goals) (Clash d (query_body gs)) h
 
 -- it is of Boolean equations exactly where its goals and its sorts are
 pub asked-reads : EquationsRead → (cs : List FormClause) (s : Source) (gs : List FormGoal) (a : Asked) → Asks s.declared (heads cs) s.names (module_names cs) gs a → Reads s.declared (query_body gs) a.goals a.sorts
@@ -48,13 +52,24 @@ asked-reads law cs s gs a h = law s.declared (query_body gs) (s.names ++ a.names
 -- all queries are, exactly where all goals and sorts are
 pub booleans-of : EquationsRead → (cs : List FormClause) (s : Source) (qs : List FormQuery) (ones : List Asked) → AllAsk cs s qs ones → Each IsOfEquations ones →
     Each (AsksBooleans (without_circuits cs s.declared)) qs
+unfolding IsOfEquations
 booleans-of law cs s [] [] none_asked e = tt
+booleans-of law cs s [] (a ∷ ones) k e = elim k [ ]
+booleans-of law cs s (q ∷ qs) [] k e = elim k [ ]
 booleans-of law cs s (q ∷ qs) (a ∷ ones) (more_asked h hs) e = ((asked-reads law cs s q.goals a h).sound e.0.0 e.0.1, booleans-of law cs s qs ones hs e.1)
 
 pub equations-of : EquationsRead → (cs : List FormClause) (s : Source) (qs : List FormQuery) (ones : List Asked) → AllAsk cs s qs ones →
     Each (AsksBooleans (without_circuits cs s.declared)) qs → Each IsOfEquations ones
+unfolding IsOfEquations
 equations-of law cs s [] [] none_asked e = tt
+equations-of law cs s [] (a ∷ ones) k e = elim k [ ]
+equations-of law cs s (q ∷ qs) [] k e = elim k [ ]
 equations-of law cs s (q ∷ qs) (a ∷ ones) (more_asked h hs) e = ((asked-reads law cs s q.goals a h).whole e.0, equations-of law cs s qs ones hs e.1)
+
+-- whether it is, as the goals and the sorts tell
+pub of-equations : (b : Bool) (a : Asked) (gs : List Goal) (ss : List Sort) → gs ≡ a.goals → ss ≡ a.sorts → IsTrue b ↔ ((es : List Equal) × AreEquations gs ss es) → IsTrue b ↔ IsOfEquations a
+unfolding IsOfEquations
+of-equations b a gs ss e f h = subst (λ xs. IsTrue b ↔ ((es : List Equal) × AreEquations a.goals xs es)) f (subst (λ xs. IsTrue b ↔ ((es : List Equal) × AreEquations xs ss es)) e h)
 
 -- ---- how many goals there are
 
@@ -97,6 +112,10 @@ goals-length : {d : Declared} {b : Body} {n : Numbering} {ms : List (Option Text
 goals-length no_goals = refl
 goals-length (more_goals g h) = ap suc (goals-length h)
 
+sorts-length : {d : Declared} {b : Body} {xs : List Text} {ss : List Sort} → HaveSorts d b xs ss → length xs ≡ length ss
+sorts-length no_sorts = refl
+sorts-length (more_sorts h hs) = ap suc (sorts-length hs)
+
 few-goals : EquationsRead → (cs : List FormClause) (s : Source) (gs : List FormGoal) (a : Asked) → Asks s.declared (heads cs) s.names (module_names cs) gs a → sum_by goal_parts gs ≤ 1048576 →
     (es : List Equal) → AreEquations a.goals a.sorts es → length a.goals ≤ 1000000
 few-goals law cs s gs a h m es e =
@@ -107,13 +126,17 @@ few-goals law cs s gs a h m es e =
 
 -- accepted queries of a short input can be told, where they are of equations
 pub all-can-be-told : EquationsRead → (cs : List FormClause) (s : Source) (qs : List FormQuery) (ones : List Asked) → AllAsk cs s qs ones → sum_by (λ q. sum_by goal_parts q.goals) qs ≤ 1048576 → Each (CanBeTold s) ones
+unfolding IsOfEquations
 all-can-be-told law cs s [] [] none_asked m = tt
+all-can-be-told law cs s [] (a ∷ ones) k m = elim k [ ]
+all-can-be-told law cs s (q ∷ qs) [] k m = elim k [ ]
 all-can-be-told law cs s (q ∷ qs) (a ∷ ones) (more_asked h hs) m =
     let e = sum_by-cons (λ (q : FormQuery). sum_by goal_parts q.goals) q qs in
     ((λ k. record {
       es = k.0;
       equations = k.1;
       scope = (asked-reads law cs s q.goals a h).in_scope k.0 k.1;
+      sorted = ap length h.variables ∙ sorts-length h.sorts;
       few = few-goals law cs s q.goals a h (omega arith) k.0 k.1;
     }),
     all-can-be-told law cs s qs ones hs (omega arith))
@@ -123,11 +146,12 @@ pub can-tell : (s : Source) (ones : List Asked) → Each (CanBeTold s) ones → 
 can-tell s [] c e = tt
 can-tell s (a ∷ ones) c e = (c.0 e.0, can-tell s ones c.1 e.1)
 
--- ---- the asked queries, one after another
-
-pub ask-refusal : (cs : List FormClause) (s : Source) (q : FormQuery) (qs : List FormQuery) (a : Asked) (r : Option (Refusal × ℕ)) → Asks s.declared (heads cs) s.names (module_names cs) q.goals a →
-    QueriesRefusal (without_circuits cs s.declared) qs r → QueriesRefusal (without_circuits cs s.declared) (q ∷ qs) r
-ask-refusal cs s q qs a r h k = passes h.accepted k
+-- none of them is refused
+pub all-accepted : (cs : List FormClause) (s : Source) (qs : List FormQuery) (ones : List Asked) → AllAsk cs s qs ones → QueriesRefusal (without_circuits cs s.declared) qs None
+all-accepted cs s [] [] none_asked = model.none
+all-accepted cs s [] (a ∷ ones) k = elim k [ ]
+all-accepted cs s (q ∷ qs) [] k = elim k [ ]
+all-accepted cs s (q ∷ qs) (a ∷ ones) (more_asked h hs) = passes h.accepted (all-accepted cs s qs ones hs)
 
 -- ---- the definitions of what a query says
 
@@ -165,6 +189,8 @@ module _ (meant : QueriesOverFile) (cs : List FormClause) (s : Source) (over : I
   pub all-tell : (qs : List FormQuery) (ones : List Asked) (text : Text) (stop : Bool) → AllAsk cs s qs ones → AllTell s nodes ones text stop →
       (lines : List Text) × (QueriesTell (without_circuits cs s.declared) resolutions nodes qs lines stop × (text ≡ lines_text lines))
   all-tell [] [] text stop none_asked no_text = ([], (no_queries, refl))
+  all-tell [] (a ∷ ones) text stop k t = elim k [ ]
+  all-tell (q ∷ qs) [] text stop k t = elim k [ ]
   all-tell (q ∷ qs) (a ∷ ones) text stop (more_asked h hs) (more_text first rest x y t ts e f) =
       let one = lines-of q.goals a first x h t in
       let more = all-tell qs ones rest y hs ts in
@@ -174,6 +200,8 @@ module _ (meant : QueriesOverFile) (cs : List FormClause) (s : Source) (over : I
 
   pub all-begin : (qs : List FormQuery) (ones : List Asked) (text : Text) → AllAsk cs s qs ones → AllBegin s nodes ones text → QueriesBegin (without_circuits cs s.declared) resolutions nodes qs text
   all-begin qs ones text k (no_text_yet e) = run.none_yet e
+  all-begin [] (a ∷ ones) text k (within whole x t p) = elim k [ ]
+  all-begin [] (a ∷ ones) text k (behind first rest x t ts e) = elim k [ ]
   all-begin (q ∷ qs) (a ∷ ones) text (more_asked h hs) (within whole x t p) =
       let one = lines-of q.goals a whole x h t in
       run.within one.p one.q one.names one.lines x one.query one.tells (subst (IsPrefix text) one.is p)

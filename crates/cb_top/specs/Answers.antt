@@ -17,6 +17,7 @@ use Rattle.cb_model.specs.Output.{Loaded, checked_text}
 use Rattle.cb_model.specs.Commands.{Nodes, Command, file_name}
 use Rattle.cb_model.specs.Outside.{Rose, Wrote, bytes_named}
 use Rattle.cb_top.specs.Built.{AreAccepted, ClausesRefused, VerifySays, Task, Checking, Running, Comparing, FileSays, CommandSays, bytes_or}
+use Rattle.cb_top.specs.Top.{IsRun}
 use Rattle.cb_top.specs.Words.{nodes_view}
 use Rattle.cb_top.specs.declared.Task as lent
 use Rattle.cb_top.specs.declared.Task.TheVariants as task
@@ -86,8 +87,9 @@ pub record FileAnswers (files : Option (List (Text × Text))) (task : Task) (fil
   pub bytes_told : (list : List (Text × Text)) → files ≡ Some list → bytes ≡ bytes_named list file
   pub decides : Decides task bytes text result
 
--- the text and the outcome for a command that reads no input
+-- the text and the outcome for another command than `run`
 pub record Answers (files : Option (List (Text × Text))) (command : Option Command) (text : Text) (result : Outcome) : Type 0 where
+  pub no_run : IsRun command → ⊥
   pub file : Text
   pub file_told : (list : List (Text × Text)) → files ≡ Some list → file ≡ bytes_or list (file_name command)
   pub lines : List Text

@@ -84,7 +84,7 @@ AllTold s nodes ones before after faults now (Ok stop) = (text : Text) × (AllTe
 AllTold s nodes ones before after faults now (Err result) = BreaksAfter (AllBegin s nodes ones) before after faults now result
 
 -- the goals are equations of Boolean expressions, and all variables are Boolean
-abbrev pub IsOfEquations : Asked → Type 0
+unfoldable pub IsOfEquations : Asked → Type 0
 IsOfEquations a = (es : List Equal) × AreEquations a.goals a.sorts es
 
 -- where a query is of Boolean equations alone, it can be told

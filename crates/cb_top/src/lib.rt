@@ -73,14 +73,13 @@ pub fn chipbool<F: Files, I: Source, O: Sink>(
     ensures fault_of_input { result ≡ Outcome.Fault Side.Input → Rose (I.faults input.old) (I.faults input.new) }
     ensures fault_of_output { result ≡ Outcome.Fault Side.Output → Rose (O.faults out.old) (O.faults out.new) }
 {
-    match words::command_in(words) {
-        Some(Command::Run { file, nodes, .. }) => {
-            run::over_file(alloc, file, nodes, files, input, out)
-        }
-        command => match answer_to(alloc, command, files) {
-            Ok(answer) => finish(out, answer.line.bytes(), answer.outcome),
-            Err(outcome) => outcome,
-        },
+    let command = words::command_in(words);
+    if let Some(Command::Run { file, nodes, .. }) = command {
+        return run::over_file(alloc, file, nodes, files, input, out);
+    }
+    match answer_to(alloc, command, files) {
+        Ok(answer) => finish(out, answer.line.bytes(), answer.outcome),
+        Err(outcome) => outcome,
     }
 }
 
@@ -148,7 +147,7 @@ enum Task<'w> {
     Verify { name: &'w str, nodes: Nodes },
 }
 
-// The answer to another command than `run`, or the outcome where there is none.
+// The answer to words that aren't those of `run`, or the outcome where there is none.
 fn answer_to<F: Files>(
     alloc: Global,
     command: Option<Command<'_>>,
@@ -161,13 +160,28 @@ fn answer_to<F: Files>(
 {
     match command {
         None => Ok(Answer::refusal(lines::USAGE, 19)),
-        Some(Command::Check { file }) => over_file(alloc, file, Task::Check, files),
-        Some(Command::Verify { file, name, nodes }) => {
+        Some(command) => over_command(alloc, command, files),
+    }
+}
+
+// The answer to another command than `run`, or the outcome where there is none.
+fn over_command<F: Files>(
+    alloc: Global,
+    command: Command<'_>,
+    files: &mut F,
+) -> Result<Answer, Outcome>
+    requires { IsRun (Some (command_view command)) → ⊥ }
+    ensures answers { IfOk result (λ a. Answers (F.list files.old) (Some (command_view command.entry)) (line_bytes a.line) a.outcome) }
+    ensures breaks_off { IfErr result (BreaksOff (F.faults files.old) (F.faults files.new)) }
+{
+    match command {
+        Command::Check { file } => over_file(alloc, file, Task::Check, files),
+        Command::Verify { file, name, nodes } => {
             over_file(alloc, file, Task::Verify { name, nodes }, files)
         }
-        Some(Command::Run { .. }) => unreachable!(),
-        Some(Command::Same { .. }) => Ok(Answer::unbuilt()),
-        Some(Command::Make { .. }) => Ok(Answer::unbuilt()),
+        Command::Run { .. } => unreachable!(),
+        Command::Same { .. } => Ok(Answer::unbuilt()),
+        Command::Make { .. } => Ok(Answer::unbuilt()),
     }
 }
 

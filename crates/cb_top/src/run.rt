@@ -8,6 +8,7 @@ ghost use Rattle.cb_model.specs.Forms.{clause_form, query_form};
 ghost use Rattle.cb_model.specs.Grammar.{FormClause, FormQuery, ReadsQuery, Whole, IsReading};
 ghost use Rattle.cb_model.specs.Written.{AreClauses, AreQueries, query_written};
 ghost use Rattle.cb_queries.specs.Told.{IsBoolean};
+ghost use Rattle.cb_model.specs.Output.{run_outcome};
 ghost use Rattle.cb_top.specs.Built.{IsRead};
 ghost use Rattle.cb_top.specs.Words.{nodes_view};
 ghost use Rattle.cb_top.specs.Answers.{without_circuits};
@@ -157,9 +158,9 @@ fn ask_all<'s>(
     let mut queries = Vec::new(alloc);
     for query in raw {
         let asked = program.query(alloc, query)?;
-        if queries.push(asked).is_err() {
+        let Ok(()) = queries.push(asked) else {
             return Err(LoadError::Memory);
-        }
+        };
     }
     Ok(queries)
 }
@@ -175,23 +176,38 @@ fn over_asked<O: Sink>(
     requires { Each (CanBeTold program.now) queries.now }
     ensures { AskedRun program.now (nodes_view nodes) queries.now (O.written out.old) (O.written out.new) (O.faults out.old) (O.faults out.new) result }
 {
-    if !are_boolean(queries) {
-        return finish(out, lines::UNBUILT, Outcome::Refused(99));
+    if are_boolean(queries) {
+        return match tell_all(alloc, program, queries, nodes, out) {
+            Ok(stopped) => outcome_of(stopped),
+            Err(outcome) => outcome,
+        };
     }
-    match tell_all(alloc, program, queries, nodes, out) {
-        Ok(true) => Outcome::Stopped,
-        Ok(false) => Outcome::Done,
-        Err(outcome) => outcome,
+    finish(out, lines::UNBUILT, Outcome::Refused(99))
+}
+
+// The outcome of queries that were told, one of them with a stop line or none.
+fn outcome_of(stopped: bool) -> Outcome
+    ensures { result ≡ run_outcome stopped }
+{
+    if stopped {
+        Outcome::Stopped
+    } else {
+        Outcome::Done
     }
+}
+
+// Whether a query is of Boolean equations.
+fn is_boolean(query: &Query<'_>) -> bool
+    ensures { IsTrue result ↔ IsOfEquations query.now }
+{
+    are_equations(query.goals(), query.sorts())
 }
 
 // Whether each query is of Boolean equations.
 fn are_boolean(queries: &[Query<'_>]) -> bool
     ensures { IsTrue result ↔ Each IsOfEquations queries.now }
 {
-    queries
-        .iter()
-        .all(|query| are_equations(query.goals(), query.sorts()))
+    queries.iter().all(|query| is_boolean(query))
 }
 
 // Tells each query alone and writes its text as it is made; whether a last line of one is a stop line.
@@ -208,7 +224,7 @@ fn tell_all<O: Sink>(
     let mut stopped = false;
     for query in queries {
         let stop = tell_one(alloc, program, query, nodes, out)?;
-        stopped = stopped || stop;
+        stopped |= stop;
     }
     Ok(stopped)
 }
