@@ -143,6 +143,7 @@ run-ends file cs resolutions nodes input lines o (asked l i (ran qs stop a b h e
     decided : (b : Bool) → IsDecided (run_outcome b)
     decided true = tt
     decided false = tt
+
     other : (b : Bool) → run_outcome b ≡ outcome.Refused 19 → ⊥
     other true p = absurd (cc)
     other false p = absurd (cc)
@@ -283,8 +284,8 @@ module _ (files : Option (List (Text × Text))) (words : List Text) (told before
     input_told = λ bytes p. ap told_or p;
     text = text;
     appends = subst (Appends words a.file (told_or told) text) (sym e)
-      (appends-whole words a.file (told_or told) text wanted (says-outcome (command_of words) a.file (told_or told) a.lines wanted (a.says (told_or told))).ends
-      (record { lines = a.lines; says = a.says (told_or told); is = a.is }));
+        (appends-whole words a.file (told_or told) text wanted (says-outcome (command_of words) a.file (told_or told) a.lines wanted (a.says (told_or told))).ends
+        (record { lines = a.lines; says = a.says (told_or told); is = a.is }));
     wrote = w;
     takes = λ bytes p d. takes-none (command_of words) a.file bytes told a.no_run p;
   }
@@ -295,7 +296,7 @@ module _ (files : Option (List (Text × Text))) (words : List Text) (told before
     input_told = λ bytes p. ap told_or p;
     text = take k text;
     appends = subst (Appends words a.file (told_or told) (take k text)) (sym e)
-      (begins text wanted (record { lines = a.lines; says = a.says (told_or told); is = a.is }) (prefix-of k text));
+        (begins text wanted (record { lines = a.lines; says = a.says (told_or told); is = a.is }) (prefix-of k text));
     wrote = w;
     takes = λ bytes p d. takes-none (command_of words) a.file bytes told a.no_run p;
   }

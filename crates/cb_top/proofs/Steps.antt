@@ -94,8 +94,8 @@ module _ (s : Source) (nodes : Nodes) (ones : List Asked) (start : Option Text) 
     wrote = Wrote-then start now then so.text t so.wrote w;
     count = let c = so.count in omega arith;
     tells = λ rest y h.
-      subst (AllTell s nodes ones ((so.text ++ t) ++ rest)) (or-assoc stopped x y)
-      (subst (λ u. AllTell s nodes ones u (stopped || (x || y))) (sym (append_assoc so.text t rest)) (so.tells (t ++ rest) (x || y) (more_text t rest x y k h refl refl)));
+        subst (AllTell s nodes ones ((so.text ++ t) ++ rest)) (or-assoc stopped x y)
+        (subst (λ u. AllTell s nodes ones u (stopped || (x || y))) (sym (append_assoc so.text t rest)) (so.tells (t ++ rest) (x || y) (more_text t rest x y k h refl refl)));
     begins = λ rest h. subst (AllBegin s nodes ones) (sym (append_assoc so.text t rest)) (so.begins (t ++ rest) (behind t rest x k h refl));
   }
 

@@ -131,15 +131,16 @@ all-can-be-told law cs s [] [] none_asked m = tt
 all-can-be-told law cs s [] (a ∷ ones) k m = elim k [ ]
 all-can-be-told law cs s (q ∷ qs) [] k m = elim k [ ]
 all-can-be-told law cs s (q ∷ qs) (a ∷ ones) (more_asked h hs) m =
-    let e = sum_by-cons (λ (q : FormQuery). sum_by goal_parts q.goals) q qs in
-    ((λ k. record {
-      es = k.0;
-      equations = k.1;
-      scope = (asked-reads law cs s q.goals a h).in_scope k.0 k.1;
-      sorted = ap length h.variables ∙ sorts-length h.sorts;
-      few = few-goals law cs s q.goals a h (omega arith) k.0 k.1;
-    }),
-    all-can-be-told law cs s qs ones hs (omega arith))
+    let e = sum_by-cons (λ (q : FormQuery). sum_by goal_parts q.goals) q qs in (
+      (λ k. record {
+        es = k.0;
+        equations = k.1;
+        scope = (asked-reads law cs s q.goals a h).in_scope k.0 k.1;
+        sorted = ap length h.variables ∙ sorts-length h.sorts;
+        few = few-goals law cs s q.goals a h (omega arith) k.0 k.1;
+      }),
+      all-can-be-told law cs s qs ones hs (omega arith),
+    )
 
 -- those that are of equations are told
 pub can-tell : (s : Source) (ones : List Asked) → Each (CanBeTold s) ones → Each IsOfEquations ones → Each (told.IsBoolean s) ones
@@ -193,10 +194,13 @@ module _ (meant : QueriesOverFile) (cs : List FormClause) (s : Source) (over : I
   all-tell (q ∷ qs) [] text stop k t = elim k [ ]
   all-tell (q ∷ qs) (a ∷ ones) text stop (more_asked h hs) (more_text first rest x y t ts e f) =
       let one = lines-of q.goals a first x h t in
-      let more = all-tell qs ones rest y hs ts in
-      (one.lines ++ more.0,
-      (more_queries one.p one.q one.names one.lines more.0 x y one.query one.tells more.1.0 refl f,
-      e ∙ ap (λ u. u ++ rest) one.is ∙ ap (λ u. lines_text one.lines ++ u) more.1.1 ∙ sym (lines-append one.lines more.0)))
+      let more = all-tell qs ones rest y hs ts in (
+        one.lines ++ more.0,
+        (
+          more_queries one.p one.q one.names one.lines more.0 x y one.query one.tells more.1.0 refl f,
+          e ∙ ap (λ u. u ++ rest) one.is ∙ ap (λ u. lines_text one.lines ++ u) more.1.1 ∙ sym (lines-append one.lines more.0),
+        ),
+      )
 
   pub all-begin : (qs : List FormQuery) (ones : List Asked) (text : Text) → AllAsk cs s qs ones → AllBegin s nodes ones text → QueriesBegin (without_circuits cs s.declared) resolutions nodes qs text
   all-begin qs ones text k (no_text_yet e) = run.none_yet e
