@@ -17,12 +17,15 @@ fn program<'s>(alloc: Global, text: &'s [u8]) -> Result<Result<Program<'s>, Load
     Ok(load(alloc, clauses.as_slice()))
 }
 
-// How many clauses the program of a file has, or its refusal.
-fn loaded(rt: &impl Abort, alloc: Global, text: &[u8]) -> Result<Result<u32, LoadError>, Fail> {
-    assert!(rt; text.len() <= 4194304);
-    match program(alloc, text)? {
-        Ok(program) => Ok(Ok(program.clauses())),
-        Err(error) => Ok(Err(error)),
+// How many clauses the program of a file has, or its refusal; `None` where the file is not read.
+fn loaded(alloc: Global, text: &[u8]) -> Option<Result<u32, LoadError>> {
+    if text.len() > 4194304 {
+        return None;
+    }
+    match program(alloc, text) {
+        Ok(Ok(program)) => Some(Ok(program.clauses())),
+        Ok(Err(error)) => Some(Err(error)),
+        Err(_) => None,
     }
 }
 
@@ -33,7 +36,7 @@ fn accepted<'s>(rt: &impl Abort, alloc: Global, text: &'s [u8]) -> Result<Progra
 }
 
 #[test]
-fn refuses_files(rt: HostRuntime) -> Result<(), Fail> {
+fn refuses_files(rt: HostRuntime) {
     let cases: [(&[u8], LoadError); 17] = [
         (b":- constants a, fail.", LoadError::Directive(1)),
         (
@@ -75,13 +78,13 @@ fn refuses_files(rt: HostRuntime) -> Result<(), Fail> {
         ),
     ];
     for (text, want) in cases {
-        assert_eq!(&rt; loaded(&rt, rt.alloc(), text)?, Err(want), "{want:?}");
+        let is_refused = loaded(rt.alloc(), text) == Some(Err(want));
+        assert!(rt; is_refused, "{want}");
     }
-    Ok(())
 }
 
 #[test]
-fn accepts_files(rt: HostRuntime) -> Result<(), Fail> {
+fn accepts_files(rt: HostRuntime) {
     let cases: [(&[u8], u32); 5] = [
         (
             b":- sorts p(bool). :- sorts p(bool, bus). p(0). p(0, []).",
@@ -93,9 +96,9 @@ fn accepts_files(rt: HostRuntime) -> Result<(), Fail> {
         (b":- delay p(nonvar). p(0).", 1),
     ];
     for (text, want) in cases {
-        assert_eq!(&rt; loaded(&rt, rt.alloc(), text)?, Ok(want), "{want}");
+        let is_accepted = loaded(rt.alloc(), text) == Some(Ok(want));
+        assert!(rt; is_accepted, "{want}");
     }
-    Ok(())
 }
 
 // A directive that declares so many constants.
@@ -109,17 +112,19 @@ fn constants(alloc: Global, count: u32) -> Result<Vec<u8>, Fail> {
     Ok(text)
 }
 
+// Whether there are 4,096 constants, of which this is the last.
+fn has_most(program: &Program<'_>, last: &[u8]) -> bool {
+    program.constants() == 4096 && program.constant_name(4095) == last
+}
+
 #[test]
 fn declares_4096_constants(rt: HostRuntime) -> Result<(), Fail> {
     let most = constants(rt.alloc(), 4096)?;
     let program = accepted(&rt, rt.alloc(), most.as_slice())?;
-    assert!(&rt; program.constants() == 4096);
-    assert!(&rt; program.constant_name(4095) == b"c4095".as_slice());
+    assert!(&rt; has_most(&program, b"c4095"));
     let more = constants(rt.alloc(), 4097)?;
-    assert_eq!(&rt;
-        loaded(&rt, rt.alloc(), more.as_slice())?,
-        Err(LoadError::Directive(1))
-    );
+    let is_refused = loaded(rt.alloc(), more.as_slice()) == Some(Err(LoadError::Directive(1)));
+    assert!(&rt; is_refused);
     Ok(())
 }
 
@@ -128,115 +133,166 @@ const FILE: &[u8] =
     :- delay p(known, any, nonvar).\n\
     p(a, [], f) :- X = Y, Y = Z, q(Z).\nd(0).\nq(0).\np(X, [X|T], f(Y)) :- Y = W.\n";
 
-#[test]
-fn chains_the_clauses_of_a_predicate(rt: HostRuntime) -> Result<(), Fail> {
-    let program = accepted(&rt, rt.alloc(), FILE)?;
-    assert!(&rt; program.clauses() == 4);
+// Whether the clauses of `FILE` are chained by predicate.
+fn are_chained(program: &Program<'_>) -> bool {
+    if program.clauses() != 4 {
+        return false;
+    }
+    let first = program.clause(0);
+    (first.pred as usize) < program.names()
+        && program.first(first.pred) == Some(0)
+        && program.after(0) == Some(3)
+        && program.after(3) == None
+        && program.after(1) == None
+}
+
+// Whether the directives of `FILE` are told.
+fn are_declared(program: &Program<'_>) -> bool {
+    if program.clauses() != 4 || program.constants() != 2 {
+        return false;
+    }
     let p = program.clause(0).pred;
     let d = program.clause(1).pred;
-    assert!(&rt; (p as usize) < program.names() && (d as usize) < program.names());
-    assert_eq!(&rt; program.first(p), Some(0));
-    assert_eq!(&rt; program.after(0), Some(3));
-    assert_eq!(&rt; program.after(3), None);
-    assert_eq!(&rt; program.first(d), Some(1));
-    assert_eq!(&rt; program.after(1), None);
-    assert!(&rt; program.name(p) == b"p".as_slice());
-    assert!(&rt; program.demon(d) && !program.demon(p));
-    assert!(&rt; program.when(p, 0) == When::Known);
-    assert!(&rt; program.when(p, 1) == When::Any);
-    assert!(&rt; program.when(p, 2) == When::Nonvar);
-    assert!(&rt; program.when(d, 0) == When::Any);
-    assert!(&rt; program.constants() == 2);
-    assert!(&rt; program.constant_name(1) == b"b".as_slice());
-    Ok(())
+    (p as usize) < program.names()
+        && (d as usize) < program.names()
+        && program.name(p) == b"p".as_slice()
+        && program.demon(d)
+        && !program.demon(p)
+        && program.when(p, 0) == When::Known
+        && program.when(p, 1) == When::Any
+        && program.when(p, 2) == When::Nonvar
+        && program.when(d, 0) == When::Any
+        && program.constant_name(1) == b"b".as_slice()
+}
+
+// Whether the head of the last clause of `FILE` is `p(X, [X|T], f(Y))`.
+fn is_last_head(head: &[Tree]) -> bool {
+    match head {
+        [
+            Tree::Leaf(Expr::Var(0)),
+            Tree::Bus(bits, Some(1)),
+            Tree::Node(_, args),
+        ] => {
+            match (bits.as_slice(), args.as_slice()) {
+                ([Expr::Var(0)], [Tree::Var(2)]) => true,
+                _ => false,
+            }
+        }
+        _ => false,
+    }
+}
+
+// Whether the body of the last clause of `FILE` is `Y = W`.
+fn is_last_body(body: &[Goal]) -> bool {
+    match body {
+        [Goal::Equal(Tree::Var(2), Tree::Var(3))] => true,
+        _ => false,
+    }
+}
+
+// Whether the clauses of `FILE` are told. The variables of the first have their sorts by its last goal alone.
+fn are_told(program: &Program<'_>) -> bool {
+    if program.clauses() != 4 {
+        return false;
+    }
+    let first = program.clause(0);
+    let last = program.clause(3);
+    first.sorts == [Sort::Bool, Sort::Bool, Sort::Bool].as_slice()
+        && last.sorts == [Sort::Bool, Sort::Bus, Sort::Term, Sort::Term].as_slice()
+        && is_last_head(last.head)
+        && is_last_body(last.body)
 }
 
 #[test]
-fn tells_a_clause(rt: HostRuntime) -> Result<(), Fail> {
+fn tells_the_clauses_of_a_file(rt: HostRuntime) -> Result<(), Fail> {
     let program = accepted(&rt, rt.alloc(), FILE)?;
-    assert!(&rt; program.clauses() == 4);
-    let first = program.clause(0);
-    assert!(&rt; first.sorts == [Sort::Bool, Sort::Bool, Sort::Bool].as_slice());
-    let last = program.clause(3);
-    assert!(&rt; last.sorts == [Sort::Bool, Sort::Bus, Sort::Term, Sort::Term].as_slice());
-    let [
-        Tree::Leaf(Expr::Var(0)),
-        Tree::Bus(bits, Some(1)),
-        Tree::Node(_, args),
-    ] = last.head
-    else {
-        panic!(&rt; "the head has a leaf, a bus with a tail and a node");
-    };
-    let [Expr::Var(0)] = bits.as_slice() else {
-        panic!(&rt; "the bus has one variable");
-    };
-    let [Tree::Var(2)] = args.as_slice() else {
-        panic!(&rt; "the node has one variable");
-    };
-    let [Goal::Equal(Tree::Var(2), Tree::Var(3))] = last.body else {
-        panic!(&rt; "the body has one equation");
-    };
+    let all = are_chained(&program) && are_declared(&program) && are_told(&program);
+    assert!(&rt; all);
     Ok(())
 }
 
-// What the first query of a text asks, or its refusal. The text may live shorter than that of the file.
+// What the first query of a text asks, or its refusal; `None` where there is none. The text may live shorter than that
+// of the file.
 fn asked<'s: 'q, 'q>(
-    rt: &impl Abort,
     alloc: Global,
     program: &Program<'s>,
     text: &'q [u8],
-) -> Result<Result<Query<'q>, LoadError>, Fail> {
-    assert!(rt; text.len() <= 4194304);
-    let queries = read_queries(alloc, text)?;
-    match queries.first() {
-        Some(query) => Ok(program.query(alloc, query)),
-        None => panic!(rt; "there is a query"),
+) -> Option<Result<Query<'q>, LoadError>> {
+    if text.len() > 4194304 {
+        return None;
+    }
+    match read_queries(alloc, text) {
+        Ok(queries) => match queries.first() {
+            Some(query) => Some(program.query(alloc, query)),
+            None => None,
+        },
+        Err(_) => None,
     }
 }
 
-#[test]
-fn tells_what_a_query_asks(rt: HostRuntime) -> Result<(), Fail> {
-    let program = accepted(&rt, rt.alloc(), FILE)?;
-    let before = program.names();
-    assert!(&rt; before > 0 && before < 100);
-    {
-        let text = Vec::from_slice(rt.alloc(), b"p(X, [_|_T], f(_, two)), q(Z).".as_slice())?;
-        let query = asked(&rt, rt.alloc(), &program, text.as_slice())??;
-        assert_eq!(&rt; query.printed(0), Some((0, b"X".as_slice())));
-        assert_eq!(&rt; query.printed(1), Some((4, b"Z".as_slice())));
-        assert_eq!(&rt; query.printed(2), None);
-        assert_eq!(&rt; query.printed_count(), 2);
-        assert_eq!(&rt; query.name(0), None);
-        assert_eq!(&rt; query.name(before as u32), Some(b"f".as_slice()));
-        assert_eq!(&rt; query.name(before as u32 + 1), Some(b"two".as_slice()));
-        assert_eq!(&rt; query.name(before as u32 + 2), None);
-        let sorts = [Sort::Bool, Sort::Bool, Sort::Bus, Sort::Term, Sort::Bool];
-        assert!(&rt; query.sorts() == sorts.as_slice());
-        let [Goal::Call(_, _), Goal::Call(_, args)] = query.goals() else {
-            panic!(&rt; "there are two calls");
-        };
-        let [Tree::Leaf(Expr::Var(4))] = args.as_slice() else {
-            panic!(&rt; "the last call has one variable");
-        };
-    }
-    assert_eq!(&rt; program.clauses(), 4);
-    Ok(())
+// Whether the variables X and Z are printed, with these numbers.
+fn are_printed(query: &Query<'_>) -> bool {
+    query.printed(0) == Some((0, b"X".as_slice()))
+        && query.printed(1) == Some((4, b"Z".as_slice()))
+        && query.printed(2) == None
+        && query.printed_count() == 2
 }
 
-#[test]
-fn refuses_queries(rt: HostRuntime) -> Result<(), Fail> {
-    let program = accepted(&rt, rt.alloc(), FILE)?;
-    let cases: [(&[u8], LoadError); 4] = [
-        (b"zap(X).", LoadError::Unknown(1)),
-        (b"\nq(0, 1).", LoadError::Unknown(2)),
-        (b"\n\nX = a, X = Y, Y = f.", LoadError::SortClash(3)),
-        (b"q([]).", LoadError::SortClash(1)),
-    ];
-    for (text, want) in cases {
-        match asked(&rt, rt.alloc(), &program, text)? {
-            Ok(_) => panic!(&rt; "{want:?} is wanted"),
-            Err(error) => assert_eq!(&rt; error, want),
+// Whether the query's own names are `f` and `two`, behind so many of the program.
+fn are_own(query: &Query<'_>, before: u32) -> bool {
+    before > 0
+        && before < 100
+        && query.name(before - 1) == None
+        && query.name(before) == Some(b"f".as_slice())
+        && query.name(before + 1) == Some(b"two".as_slice())
+        && query.name(before + 2) == None
+}
+
+// Whether the goals are two calls, the last of variable 4.
+fn are_calls(goals: &[Goal]) -> bool {
+    match goals {
+        [Goal::Call(_, _), Goal::Call(_, args)] => match args.as_slice() {
+            [Tree::Leaf(Expr::Var(4))] => true,
+            _ => false,
+        },
+        _ => false,
+    }
+}
+
+// Whether `p(X, [_|_T], f(_, two)), q(Z).` is told over `FILE`.
+fn is_told(alloc: Global, program: &Program<'_>, text: &[u8]) -> bool {
+    match asked(alloc, program, text) {
+        Some(Ok(query)) => {
+            let sorts = [Sort::Bool, Sort::Bool, Sort::Bus, Sort::Term, Sort::Bool];
+            query.sorts() == sorts.as_slice()
+                && are_calls(query.goals())
+                && are_printed(&query)
+                && program.names() < 100
+                && are_own(&query, program.names() as u32)
         }
+        _ => false,
     }
+}
+
+// Whether a query is refused in this way.
+fn is_refused(alloc: Global, program: &Program<'_>, text: &[u8], want: LoadError) -> bool {
+    match asked(alloc, program, text) {
+        Some(Err(error)) => error == want,
+        _ => false,
+    }
+}
+
+#[test]
+fn asks_and_refuses_queries(rt: HostRuntime) -> Result<(), Fail> {
+    let program = accepted(&rt, rt.alloc(), FILE)?;
+    let told = is_told(rt.alloc(), &program, b"p(X, [_|_T], f(_, two)), q(Z).");
+    let unknown = is_refused(rt.alloc(), &program, b"\nq(0, 1).", LoadError::Unknown(2));
+    let clash = is_refused(
+        rt.alloc(),
+        &program,
+        b"X = a, X = Y, Y = f.",
+        LoadError::SortClash(1),
+    );
+    assert!(&rt; told && unknown && clash);
     Ok(())
 }
