@@ -1,10 +1,9 @@
 -- A slot more: the older ones keep their bits.
 use Rattle.std.proofs.Common.{◌≡◌, ◌≢◌, inl, inr, ℕ, ◌<◌, Option, Some, None, sym, ap, subst, ◌∙◌, arith}
-use Rattle.std.proofs.lemmas.Bool.{cases_eq}
 use Rattle.cb_model.specs.Bits.{Bits}
 use Rattle.cb_boole.specs.Elimination.{Function}
 use Rattle.cb_boole.specs.View.{View, IsGood, IsLive, point, with_at, with_slot, with_variable}
-use Rattle.cb_boole.proofs.Unify.{cases_stands, constant_other, point_free, point_other}
+use Rattle.cb_boole.proofs.Unify.{cases_stands, point_free, point_other}
 use Rattle.cb_boole.proofs.Grow.{with_same, with_other}
 use Rattle.cb_elim.specs.Store.{AddsSlot}
 

@@ -250,6 +250,7 @@ same-solved s f g e = record {
 }
 
 pub same-solution : (s : Seen) (f g : ℕ) → f ≡ g → IsSolutionOf (view_of s) (view_of s) (function_of s.nodes.triples f) (function_of s.nodes.triples g)
+unfolding rest solved
 same-solution s f g e = record {
   levels = [];
   elimination = record {

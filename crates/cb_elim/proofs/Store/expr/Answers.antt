@@ -1,8 +1,5 @@
-use Rattle.std.proofs.Common.{Result, Err, length, ap, ◌∙◌}
-use Rattle.cb_dd.specs.declared.Node.{Node}
-use Rattle.cb_dd.specs.declared.Stop.{Stop}
-use Rattle.cb_dd.specs.Diagram.{fulls_after}
-use Rattle.cb_elim.proofs.Sizes.{expr-room, cut-cause, room-as-before}
+use Rattle.std.proofs.Common.{length}
+use Rattle.cb_elim.proofs.Sizes.{expr-room, cut-cause, room-as-before, stopped}
 use Rattle.cb_elim.proofs.Inside.{seen}
 use Rattle.cb_elim.proofs.Views.{only-nodes, store-grown}
 use Rattle.cb_elim.proofs.Back.{keeps-nodes}
@@ -41,3 +38,8 @@ returns-in-Err-clause-store c = store-before c.args.self.now _ c.requires.store 
 
 pub returns-in-Err-clause-room : goal.returns-in-Err-clause-room
 returns-in-Err-clause-room c = room-as-before c.args.self.now _ (length c.args.vars.now) c.args.e.now (returns-in-Err-clause-as_before c)
+
+pub returns-in-Err-clause-cause : goal.returns-in-Err-clause-cause
+returns-in-Err-clause-cause c = λ e.
+    cut-cause c.args.self.now (seen c.self.inside) c.self.view_is c.expression.new.ops (length c.args.vars.now) c.args.e.now c.cut.new.self c.expression.ensures.grows c.requires.scope
+    (rw c.deref.ensures.value at c.expression.ensures.room) c.in-Err.ensures.some (c.in-Err.ensures.full e) (stopped _ c.self.inside.ops.fulls c.in-Err.stop c.in-Err.ensures.fulls e) c.cut.ensures.fulls
