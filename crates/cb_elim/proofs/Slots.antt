@@ -64,6 +64,7 @@ store-held s f st a = record {
   constants = st.constants;
   nodes = there-more s.nodes.triples s.slots f st.nodes a.node;
   trail = wider s.trail (length s.slots) (length (s.slots ++ f ∷ [])) (omega (arith, length-append s.slots (f ∷ []))) st.trail;
+  changed = st.changed;
 }
 
 pub held-argument : (s : Seen) (f : Node) → IsStore s → (n : ℕ) → IsArgument s n → IsArgument (record s { slots = s.slots ++ f ∷ [] }) n
@@ -204,6 +205,7 @@ module _ (s : Seen) (n : Node) (st : IsStore s) (w : IsNode s.nodes.triples n.0)
     constants = let c : s.constants ≤ s.drawn = st.constants in omega arith;
     nodes = there-more s.nodes.triples s.slots n st.nodes w;
     trail = wider s.trail (length s.slots) (length (s.slots ++ n ∷ [])) (omega (arith, length-append s.slots (n ∷ []))) st.trail;
+    changed = st.changed;
   }
 
   pub range-new : HasSameRange (view_of s) (view_of (with_new s n))

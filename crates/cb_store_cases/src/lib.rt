@@ -8,4 +8,10 @@ mod products;
 #[cfg(test)]
 mod setup;
 #[cfg(test)]
+mod solutions;
+#[cfg(test)]
+mod systems;
+#[cfg(test)]
+mod trails;
+#[cfg(test)]
 mod undone;
