@@ -62,12 +62,12 @@ grown-value s t gr c w a = combined-all c.operation _ _ _ _ _ _ (grown-function 
 pub halves-meet : (s t : Store) → Grows s t → (level : ℕ) (c : Choice) (lo hi n : ℕ) → AreCalled s.triples c → IsHalf s.triples level false c lo → IsHalf s.triples level true c hi
     → ((a : Bits) → function_of t.triples n a ≡ (if a level then function_of s.triples hi a else function_of s.triples lo a)) → (a : Bits) → function_of t.triples n a ≡ value_of t.triples c a
 halves-meet s t gr level c lo hi n w low high made a = elim (cases_Bool (a level)) [
-    | inl one ↦
-    made a ∙ ap (λ b. if b then function_of s.triples hi a else function_of s.triples lo a) one ∙ high.at a
-    ∙ ap (value_of s.triples c) (put-id a level true one) ∙ sym (grown-value s t gr c w a)
-    | inr zero ↦
-    made a ∙ ap (λ b. if b then function_of s.triples hi a else function_of s.triples lo a) zero ∙ low.at a
-    ∙ ap (value_of s.triples c) (put-id a level false zero) ∙ sym (grown-value s t gr c w a)
+  | inl one ↦
+      made a ∙ ap (λ b. if b then function_of s.triples hi a else function_of s.triples lo a) one ∙ high.at a
+      ∙ ap (value_of s.triples c) (put-id a level true one) ∙ sym (grown-value s t gr c w a)
+  | inr zero ↦
+      made a ∙ ap (λ b. if b then function_of s.triples hi a else function_of s.triples lo a) zero ∙ low.at a
+      ∙ ap (value_of s.triples c) (put-id a level false zero) ∙ sym (grown-value s t gr c w a)
 ]
 
 -- what waits with its second cofactor to be asked, and what is left of it
