@@ -4,7 +4,7 @@
 ghost use Rattle.std.specs.Prelude.{◌≡◌, ◌≢◌, ◌⊎◌, ℕ, Bool, not, ◌&&◌, ◌||◌, ◌+◌, ◌-◌, ◌*◌, ◌<◌, ◌≤◌, ◌^◌, ◌↔◌, [], ◌∷◌, ◌++◌, List, length, map, take, min, Some, None, Ok, Err, IfOk, OnOk, OnErr, IfSome, IfNone, IsTrue, Contains, true, false, if◌then◌else◌};
 ghost use Rattle.cb_model.specs.Bits.{Bits, xor, put};
 ghost use Rattle.indexmap.specs.IndexMap.{get};
-ghost use Rattle.cb_ops.specs.Done.{AllRestricted, node_eq};
+ghost use Rattle.cb_ops.specs.Done.{node_eq};
 ghost use Rattle.cb_ops.specs.Substitute.{AreNodes, AllSubstituted, SubstituteCause, SubstituteRoom, IsJoined, JoinRoom, image_of, substituted};
 ghost use Rattle.cb_ops.specs.Support.{IsWithin, AllWithin, IsGathered};
 ghost use Rattle.cb_dd.specs.Diagram.{Store, IsDiagram, IsCanonical, IsNode, IsChild, IsFull, HasParts, Holds, function_of, level_of, fulls_after, parts_of, triple};
@@ -14,6 +14,9 @@ ghost use Rattle.cb_ops.specs.Call.{IsSameCall};
 ghost use Rattle.cb_ops.specs.Waiting.{AreCalled, Asked, Resumed, Waits, IsHalf, IsAnswered, IsValue, bit_of, made_of, fulls_after_turn};
 ghost use Rattle.cb_ops.specs.Pair.{IsSamePair};
 ghost use Rattle.cb_ops.specs.declared.Call.{Call};
+
+mod sides;
+mod walk;
 
 use cb_dd::{Dd, DdMark, Node, Stop};
 use indexmap::{IndexMap, IndexSet};
@@ -412,87 +415,6 @@ impl Ops {
             g,
             h: Node::ZERO,
         })
-    }
-
-    /// The node with that bit at the level: a cofactor.
-    pub fn restrict(&mut self, f: Node, level: u32, bit: bool) -> Result<Node, Stop>
-        requires { IsNode self.old.triples f.0 }
-        ensures is_node { IfOk result (λ n. IsNode self.new.triples n.0) }
-        ensures function { IfOk result (λ n. StandsFor self.new.triples n.0 (λ a.
-            function_of self.old.triples f.0 (put level bit a))) }
-        ensures grows { Grows self.old self.new }
-        ensures room { Room (f.0 ∷ []) 1 self.old self.new }
-        ensures full { result ≡ Err Stop.Nodes → length self.new.triples ≡ self.new.budget }
-        ensures nodes { result ≡ Err Stop.Nodes → HasCause (f.0 ∷ []) 1 self.old self.new }
-        ensures unbounded { self.old.budget ≡ 2 ^ 64 - 1 → result ≢ Err Stop.Nodes }
-        ensures fulls { self.new.fulls ≡ fulls_after self.old.fulls result }
-        ensures diagram { IsDiagram self.new.triples }
-    {
-        let mut done = IndexMap::new(*self.memo.allocator());
-        let n = self.restrict_in(f, level, bit, &mut done)?;
-        Ok(n)
-    }
-
-    /// The node that is 1 where the node is for some bit at the level.
-    pub fn exists(&mut self, f: Node, level: u32) -> Result<Node, Stop>
-        requires { IsNode self.old.triples f.0 }
-        ensures is_node { IfOk result (λ n. IsNode self.new.triples n.0) }
-        ensures function { IfOk result (λ n. StandsFor self.new.triples n.0 (λ a.
-            function_of self.old.triples f.0 (put level false a)
-            || function_of self.old.triples f.0 (put level true a))) }
-        ensures grows { Grows self.old self.new }
-        ensures room { Room (f.0 ∷ []) 3 self.old self.new }
-        ensures full { result ≡ Err Stop.Nodes → length self.new.triples ≡ self.new.budget }
-        ensures nodes { result ≡ Err Stop.Nodes → HasCause (f.0 ∷ []) 3 self.old self.new }
-        ensures unbounded { self.old.budget ≡ 2 ^ 64 - 1 → result ≢ Err Stop.Nodes }
-        ensures fulls { self.new.fulls ≡ fulls_after self.old.fulls result }
-        ensures diagram { IsDiagram self.new.triples }
-    {
-        let low = self.restrict(f, level, false)?;
-        let high = self.restrict(f, level, true)?;
-        let n = self.or(low, high)?;
-        Ok(n)
-    }
-
-    // The same as `restrict`, with the nodes for which it is done.
-    fn restrict_in(
-        &mut self,
-        f: Node,
-        level: u32,
-        bit: bool,
-        done: &mut IndexMap<Node, Node>,
-    ) -> Result<Node, Stop>
-        requires f { IsNode self.old.triples f.0 }
-        requires done { AllRestricted done.old self.old.triples level bit }
-        ensures is_node { IfOk result (λ n. IsNode self.new.triples n.0) }
-        ensures function { IfOk result (λ n. StandsFor self.new.triples n.0 (λ a.
-            function_of self.old.triples f.0 (put level bit a))) }
-        ensures grows { Grows self.old self.new }
-        ensures room { Room (f.0 ∷ []) 1 self.old self.new }
-        ensures full { result ≡ Err Stop.Nodes → length self.new.triples ≡ self.new.budget }
-        ensures unbounded { self.old.budget ≡ 2 ^ 64 - 1 → result ≢ Err Stop.Nodes }
-        ensures fulls { self.new.fulls ≡ fulls_after self.old.fulls result }
-        ensures diagram { IsDiagram self.new.triples }
-        ensures done { AllRestricted done.new self.new.triples level bit }
-    {
-        let _count = self.count();
-        let Some((at, lo, hi)) = self.parts(f) else {
-            return Ok(f);
-        };
-        if level < at {
-            return Ok(f);
-        }
-        if level == at {
-            return Ok(if bit { hi } else { lo });
-        }
-        if let Some(r) = recall_in(done, f) {
-            return Ok(r);
-        }
-        let low = self.restrict_in(lo, level, bit, done)?;
-        let high = self.restrict_in(hi, level, bit, done)?;
-        let r = self.node(at, low, high)?;
-        remember(done, f, r);
-        Ok(r)
     }
 
     /// The node with each level of the list replaced by its node, all at once. It is the node itself where all its
