@@ -16,7 +16,7 @@ use Rattle.cb_boole.specs.Elimination.{Function, DependsOnly, IsAway}
 use Rattle.cb_boole.proofs.Only.{weaker}
 use Rattle.cb_solution.specs.Solution.{IsFalling}
 use Rattle.cb_solution.proofs.Solved.{listed-here, listed-there, listed-cases, only-from}
-use Rattle.cb_parameters.specs.Stages.{IsSettled, AreFor}
+use Rattle.cb_boole.specs.Stages.{IsSettled, AreFor}
 use Rattle.cb_leaves.specs.Leaves.{AreInner}
 
 -- ---- lists of levels

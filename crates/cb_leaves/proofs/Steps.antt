@@ -22,10 +22,10 @@ use Rattle.cb_boole.specs.Elimination.{Function, DependsOnly, IsAway, both, rest
 use Rattle.cb_boole.proofs.Only.{both_only, rest_only, solved_alike, weaker}
 use Rattle.cb_solution.specs.Solution.{IsFalling, IsSolution, HasRest, ImagesWithin, SolutionRoom}
 use Rattle.cb_solution.proofs.Solved.{only-from, only-into, listed-there}
-use Rattle.cb_parameters.specs.Parametric.{parametric}
-use Rattle.cb_parameters.specs.Stages.{AreFor, misses}
-use Rattle.cb_parameters.proofs.Picking.{negated, negated_only, parametric_only}
-use Rattle.cb_parameters.proofs.Stages.{solvable}
+use Rattle.cb_boole.specs.Parametric.{parametric}
+use Rattle.cb_boole.specs.Stages.{AreFor, misses}
+use Rattle.cb_boole.proofs.Picking.{negated, negated_only, parametric_only}
+use Rattle.cb_boole.proofs.Stages.{solvable}
 use Rattle.cb_leaves.specs.Leaves.{functions_of, AllNodes, AllDepend, AreInner, RestRoom, PickRoom, IsLeaf, LeafRoom, ArePutIn, PutRoom, IsStep, StepRoom}
 use Rattle.cb_leaves.proofs.Nodes.{function-grown, functions-grown, nodes-grown, depend-grown, nodes-more, depend-more, functions-more, path-of, depends-by}
 use Rattle.cb_leaves.proofs.Levels.{are-for, needed-listed, falling-within}

@@ -12,9 +12,9 @@ use Rattle.cb_ops.specs.Support.{IsListed}
 use Rattle.cb_boole.specs.Elimination.{Function, DependsOnly}
 use Rattle.cb_boole.proofs.Bounds.{four_next}
 use Rattle.cb_solution.proofs.Solved.{listed-here, listed-there, only-from, only-into}
-use Rattle.cb_parameters.specs.Parametric.{parametric}
-use Rattle.cb_parameters.specs.Stages.{IsStage, misses, put_in}
-use Rattle.cb_parameters.proofs.Stages.{leaf_by_leaf, begins}
+use Rattle.cb_boole.specs.Parametric.{parametric}
+use Rattle.cb_boole.specs.Stages.{IsStage, misses, put_in}
+use Rattle.cb_boole.proofs.Stages.{leaf_by_leaf, begins}
 use Rattle.cb_leaves.specs.Leaves.{functions_of, AllNodes, AllBelow, AllDepend, IsStep, StepRoom, ParametricRoom}
 use Rattle.cb_leaves.proofs.Levels.{listed-left, listed-right}
 use Rattle.cb_leaves.proofs.Nodes.{functions-grown, functions-more}

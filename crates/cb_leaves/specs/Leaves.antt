@@ -12,8 +12,8 @@ use Rattle.cb_ops.specs.Substitute.{Images, AreNodes, substituted}
 use Rattle.std.specs.List.Sorted.{IsStrictlyIncreasing}
 use Rattle.cb_boole.specs.Elimination.{Function, DependsOnly, IsAway, solved}
 use Rattle.cb_solution.specs.Solution.{ImagesWithin}
-use Rattle.cb_parameters.specs.Parametric.{values_at, Reaches, parametric}
-use Rattle.cb_parameters.specs.Stages.{AreFor, misses, put_in}
+use Rattle.cb_boole.specs.Parametric.{values_at, Reaches, parametric}
+use Rattle.cb_boole.specs.Stages.{AreFor, misses, put_in}
 
 -- the functions of nodes
 abbrev pub functions_of : List Triple → List Node → List Function

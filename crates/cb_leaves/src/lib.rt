@@ -11,8 +11,8 @@ ghost use Rattle.cb_ops.specs.Ops.{Grows, StandsFor};
 ghost use Rattle.cb_ops.specs.Substitute.{AreNodes};
 ghost use Rattle.cb_boole.specs.Elimination.{Function, DependsOnly, rest};
 ghost use Rattle.cb_solution.specs.Solution.{IsFalling};
-ghost use Rattle.cb_parameters.specs.Parametric.{parametric};
-ghost use Rattle.cb_parameters.specs.Stages.{AreOwn};
+ghost use Rattle.cb_boole.specs.Parametric.{parametric};
+ghost use Rattle.cb_boole.specs.Stages.{AreOwn};
 ghost use Rattle.cb_leaves.specs.Leaves.{functions_of, AllNodes, AllBelow, AreParametric, AreInner, RestRoom, PickRoom, IsLeaf, LeafRoom, ArePutIn, PutRoom, IsStep, StepRoom, ParametricRoom};
 
 use cb_dd::{Node, Stop};

@@ -16,8 +16,8 @@ use Rattle.cb_elim.specs.Store.{Seen, IsStore, IsArgument, view_of, value_in, st
 use Rattle.cb_elim.specs.Moments.{KeepsMoments}
 use Rattle.cb_elim.proofs.Back.{Later, keeps, store-drawn, argument-drawn}
 use Rattle.cb_elim.proofs.Views.{store-still, argument-still}
-use Rattle.cb_parameters.specs.Parametric.{Reaches, Allows, values_at}
-use Rattle.cb_parameters.proofs.Shown.{reaches_allows, gen_same}
+use Rattle.cb_boole.specs.Parametric.{Reaches, Allows, values_at}
+use Rattle.cb_boole.proofs.Shown.{reaches_allows, gen_same}
 use Rattle.cb_leaves.specs.Leaves.{functions_of, AllNodes, AllBelow, AllDepend, AreParametric, ParametricRoom, ParametricCause}
 use Rattle.cb_project.specs.Answer.{AreSlots, slot_nodes, slot_values, IsAnswer}
 

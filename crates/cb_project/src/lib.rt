@@ -6,7 +6,7 @@ ghost use Rattle.cb_dd.specs.Diagram.{IsNode};
 ghost use Rattle.cb_ops.specs.Ops.{Grows};
 ghost use Rattle.cb_elim.specs.Store.{IsArgument, IsStore};
 ghost use Rattle.cb_elim.specs.Moments.{KeepsMoments};
-ghost use Rattle.cb_parameters.specs.Stages.{AreOwn};
+ghost use Rattle.cb_boole.specs.Stages.{AreOwn};
 ghost use Rattle.cb_leaves.specs.Leaves.{functions_of, AllNodes, ParametricCause, ParametricRoom};
 ghost use Rattle.cb_project.specs.Answer.{AreSlots, IsAnswer, slot_nodes};
 

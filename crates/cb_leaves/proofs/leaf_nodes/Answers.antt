@@ -2,7 +2,7 @@ use Rattle.std.proofs.Common.{◌≡◌, ◌+◌, ◌-◌, ◌<◌, ◌≤◌, [
 use Rattle.cb_model.specs.Bits.{numbers_from}
 use Rattle.cb_dd.specs.declared.Node.{Node}
 use Rattle.cb_ops.proofs.Ite.{Grows-same, Grows-then}
-use Rattle.cb_parameters.specs.Stages.{IsStage}
+use Rattle.cb_boole.specs.Stages.{IsStage}
 use Rattle.cb_leaves.specs.Leaves.{functions_of, AllNodes, AllDepend}
 use Rattle.cb_leaves.proofs.Nodes.{nodes-grown, nodes-more}
 use Rattle.cb_leaves.proofs.Whole.{stage-first, stage-next, within-next, room-next, whole-room, depend-all, step-at, room-at, length-next, length-on, all_levels}

@@ -1,6 +1,6 @@
 use Rattle.std.proofs.Common.{◌≡◌, ℕ, ◌+◌, ◌*◌, ◌≤◌, List, length}
 use Rattle.cb_ops.specs.Ops.{Grows}
-use Rattle.cb_parameters.specs.Stages.{IsStage}
+use Rattle.cb_boole.specs.Stages.{IsStage}
 use Rattle.cb_leaves.specs.Leaves.{functions_of, AllNodes, AllDepend}
 use Rattle.cb_leaves.proofs.Whole.{all_levels, leaf_bound}
 use Rattle.cb_leaves.proofs.leaf_nodes.Given as goal

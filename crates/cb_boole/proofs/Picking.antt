@@ -7,8 +7,8 @@ use Rattle.cb_model.specs.Answers.{Picks}
 use Rattle.cb_boole.specs.Elimination.{Function, rest, solved, IsAway, DependsOnly}
 use Rattle.cb_boole.proofs.Chain.{solved_sound, solved_off, rest_false, rest_true}
 use Rattle.cb_boole.proofs.Only.{rest_drops, weaker}
-use Rattle.cb_parameters.specs.Parametric.{parametric}
-use Rattle.cb_parameters.specs.Laws.{CanBe, LeafIsPicked}
+use Rattle.cb_boole.specs.Parametric.{parametric}
+use Rattle.cb_boole.specs.Laws.{CanBe, LeafIsPicked}
 
 abbrev pub negated : Function → Function
 negated f q = not (f q)

@@ -3,8 +3,8 @@ use Rattle.std.proofs.Common.{◌≡◌, inl, inr, ℕ, suc, ◌+◌, ◌<◌, B
 use Rattle.cb_model.specs.Bits.{Bits}
 use Rattle.cb_model.specs.Answers.{Picks, Gen}
 use Rattle.cb_boole.specs.Elimination.{Function}
-use Rattle.cb_parameters.specs.Parametric.{values_at, Reaches}
-use Rattle.cb_parameters.specs.Laws.{FormDenotesReached}
+use Rattle.cb_boole.specs.Parametric.{values_at, Reaches}
+use Rattle.cb_boole.specs.Laws.{FormDenotesReached}
 
 length_values : (fs : List Function) (p : Bits) → length (values_at fs p) ≡ length fs
 length_values [] p = refl

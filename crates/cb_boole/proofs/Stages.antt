@@ -7,10 +7,10 @@ use Rattle.cb_boole.specs.Elimination.{Function, rest, solved, IsAway, AreAlike,
 use Rattle.cb_boole.proofs.Point.{put_same, put_other}
 use Rattle.cb_boole.proofs.Chain.{solved_sound, solved_keeps, solved_off, rest_false}
 use Rattle.cb_boole.proofs.Only.{solved_alike, weaker}
-use Rattle.cb_parameters.specs.Parametric.{values_at, Reaches, parametric}
-use Rattle.cb_parameters.specs.Stages.{IsSettled, Goes, AreOwn, IsStage, AreFor, misses, put_in}
-use Rattle.cb_parameters.specs.Laws.{LeafByLeaf}
-use Rattle.cb_parameters.proofs.Picking.{negated, rest_settled, negated_only, parametric_only, made, picks}
+use Rattle.cb_boole.specs.Parametric.{values_at, Reaches, parametric}
+use Rattle.cb_boole.specs.Stages.{IsSettled, Goes, AreOwn, IsStage, AreFor, misses, put_in}
+use Rattle.cb_boole.specs.Laws.{LeafByLeaf}
+use Rattle.cb_boole.proofs.Picking.{negated, rest_settled, negated_only, parametric_only, made, picks}
 
 -- ---- lists
 

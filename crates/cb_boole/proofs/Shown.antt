@@ -5,7 +5,7 @@ use Rattle.cb_model.specs.Answers.{Picks, Gen}
 use Rattle.cb_boole.specs.Elimination.{Function}
 use Rattle.cb_boole.specs.View.{View, point, InRange, IsFit, IsGood}
 use Rattle.cb_boole.proofs.Unify.{at_point}
-use Rattle.cb_parameters.specs.Parametric.{values_at, Reaches, Allows}
+use Rattle.cb_boole.specs.Parametric.{values_at, Reaches, Allows}
 
 -- at a pair of the range the leaves have the bits that they have where the slots give the pair
 values_point : (S : View) → IsGood S → (fs : List Function) → Each (IsFit S) fs → (a b : Bits) (r : InRange S a b) →

@@ -3,7 +3,7 @@ use Rattle.std.specs.Prelude.{◌≡◌, ◌↔◌, ◌⊎◌, ℕ, suc, ◌+◌
 use Rattle.cb_model.specs.Bits.{Bits, Each, numbers_from, xor}
 use Rattle.cb_model.specs.Answers.{Gen}
 use Rattle.cb_boole.specs.Elimination.{Function, AreAlike, DependsOnly, IsAway, solved}
-use Rattle.cb_parameters.specs.Parametric.{values_at, Reaches, parametric}
+use Rattle.cb_boole.specs.Parametric.{values_at, Reaches, parametric}
 
 -- a constant, or one of so many parameters from the level first on
 abbrev pub IsSettled : ℕ → ℕ → ℕ → ℕ → Type 0
