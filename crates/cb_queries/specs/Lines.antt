@@ -11,7 +11,7 @@ use Rattle.cb_dd.specs.declared.Triple.{Triple}
 use Rattle.cb_dd.specs.declared.Node.{Node}
 use Rattle.cb_boole.specs.Elimination.{Function}
 use Rattle.cb_boole.specs.Stages.{AreOwn}
-use Rattle.cb_leaves.specs.Leaves.{functions_of, AllNodes}
+use Rattle.cb_project.specs.Leaves.{functions_of, AllNodes}
 use Rattle.cb_elim.specs.declared.Slot.{Slot}
 use Rattle.cb_elim.specs.Store.{Seen}
 use Rattle.cb_project.specs.Answer.{IsAnswer}
