@@ -1,16 +1,19 @@
 #!/usr/bin/env python3
 """Runs the sessions of MANUAL.md with the program and says where what it prints isn't what stands there.
 
-The words are the path of the built program; without one it is built first, with the kit.
+The words are the path of the built program; without one it is built first, with the kit. The sessions run in a copy
+of the folder examples/.
 """
 import os
 import pathlib
+import shutil
 import subprocess
 import sys
 import tempfile
 
 DOCS = pathlib.Path(__file__).resolve().parent
 CRATE = DOCS.parent / "crates" / "chipbool"
+EXAMPLES = DOCS.parent / "examples"
 
 
 def sessions(text):
@@ -46,6 +49,7 @@ def main():
     wrong = 0
     commands = sessions((DOCS / "MANUAL.md").read_text())
     with tempfile.TemporaryDirectory() as folder:
+        shutil.copytree(EXAMPLES, folder, dirs_exist_ok=True)
         for command, here, wanted in commands:
             got = printed(command, here, folder, program)
             if got != wanted:

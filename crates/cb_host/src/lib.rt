@@ -1,9 +1,9 @@
 //! The outside: files, a source and a sink, each with a count of its faults.
 #![tactic(auto)]
 
-ghost use Rattle.std.specs.Prelude.{◌≡◌, ℕ, ◌<◌, ◌≤◌, List, [], length, take, drop, Option, IfOk, OnOk, OnErr};
+ghost use Rattle.std.specs.Prelude.{◌≡◌, ℕ, ◌<◌, ◌≤◌, false, List, [], length, take, drop, Option, IfOk, OnOk, OnErr};
 ghost use Rattle.cb_model.specs.Outside.{Rose, Wrote, bytes_named};
-ghost use Rattle.cb_host.specs.Host.{IfTold, HasLength, Loads, Reads, ReadsAll};
+ghost use Rattle.cb_host.specs.Host.{IfTold, HasLength, Loads, Reads, ReadsAll, is_failed};
 
 pub use host::{HostFiles, HostInput, HostOutput};
 pub use memory::{MemFiles, MemSink, MemSource};
@@ -48,6 +48,7 @@ pub trait Files {
         ensures bytes { IfTold (list self.old) (λ files. Loads (bytes_named files name.now) limit result into.new.items) }
         ensures length { HasLength limit result into.new.items }
         ensures count { faults self.old ≤ faults self.new }
+        ensures kept { is_failed result ≡ false → faults self.new ≡ faults self.old }
         ensures failed { result ≡ Load.Failed → Rose (faults self.old) (faults self.new) };
 }
 
@@ -68,6 +69,7 @@ pub trait Source {
         ensures none_taken { OnErr result (left self.new ≡ left self.old) }
         ensures buffer_kept { OnErr result (buf.new ≡ buf.old) }
         ensures count { faults self.old ≤ faults self.new }
+        ensures kept { OnOk result (faults self.new ≡ faults self.old) }
         ensures failed { OnErr result (Rose (faults self.old) (faults self.new)) };
 }
 
@@ -86,6 +88,7 @@ pub trait Sink {
         ensures bytes { IfOk result (λ n. Wrote (written self.old) (written self.new) (take n piece.now)) }
         ensures nothing { OnErr result (Wrote (written self.old) (written self.new) []) }
         ensures count { faults self.old ≤ faults self.new }
+        ensures kept { OnOk result (faults self.new ≡ faults self.old) }
         ensures failed { OnErr result (Rose (faults self.old) (faults self.new)) };
 }
 
@@ -95,6 +98,7 @@ pub fn write_all<S: Sink>(out: &mut S, piece: &[u8]) -> Result<(), Failed>
     ensures whole { OnOk result (Wrote (S.written out.old) (S.written out.new) piece.now) }
     ensures front { OnErr result ((n : ℕ) × ((n ≤ length piece.now) × Wrote (S.written out.old) (S.written out.new) (take n piece.now))) }
     ensures count { S.faults out.old ≤ S.faults out.new }
+    ensures kept { OnOk result (S.faults out.new ≡ S.faults out.old) }
     ensures failed { OnErr result (Rose (S.faults out.old) (S.faults out.new)) }
 {
     let mut at = 0;
@@ -115,6 +119,7 @@ pub fn read_within<I: Source>(source: &mut I, into: &mut Vec<u8>, limit: u64) ->
     ensures bytes { IfTold (I.left source.old) (λ bytes. ReadsAll bytes limit result (I.left source.new) into.new.items) }
     ensures length { HasLength limit result into.new.items }
     ensures count { I.faults source.old ≤ I.faults source.new }
+    ensures kept { is_failed result ≡ false → I.faults source.new ≡ I.faults source.old }
     ensures failed { result ≡ Load.Failed → Rose (I.faults source.old) (I.faults source.new) }
 {
     let limit = limit as usize;

@@ -3,6 +3,8 @@ pub mod Text
 pub mod Values
 pub mod Circuits
 pub mod Sound
+pub mod Carry
+pub mod Order
 pub mod Equations
 pub mod Program
 pub mod Derivation
@@ -15,6 +17,7 @@ pub mod Written
 pub mod Forms
 pub mod Directives
 pub mod Sorts
+pub mod Sorted
 pub mod Loading
 pub mod Facts
 pub mod Adder

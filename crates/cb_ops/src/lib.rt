@@ -11,6 +11,7 @@ ghost use Rattle.cb_dd.specs.Diagram.{Store, IsDiagram, IsCanonical, IsNode, IsC
 ghost use Rattle.std.specs.List.Sorted.{IsStrictlyIncreasing};
 ghost use Rattle.cb_ops.specs.Ops.{Grows, StandsFor, IsIte, IsXor, IsCofactor, Room, HasCause, DependsOn, IsFree, IsLeastTrue, IsLeastSide};
 ghost use Rattle.cb_ops.specs.Call.{IsSameCall};
+ghost use Rattle.cb_ops.specs.Waiting.{AreCalled, Asked, Resumed, Waits, IsHalf, bit_of, made_of, fulls_after_turn};
 ghost use Rattle.cb_ops.specs.Pair.{IsSamePair};
 ghost use Rattle.cb_ops.specs.declared.Call.{Call};
 
@@ -45,6 +46,38 @@ struct Call {
 struct Pair {
     f: u32,
     g: u32,
+}
+
+// A call of `ite`: the choice, what it is where the choice is 1, and what it is where the choice is 0.
+#[derive(Clone, Copy)]
+struct Choice {
+    f: Node,
+    g: Node,
+    h: Node,
+}
+
+// A call that waits for the answer of a cofactor.
+#[derive(Clone, Copy)]
+struct Pending {
+    call: Choice,
+    level: u32,
+    left: Left,
+}
+
+// What a waiting call still has to do or has done already.
+#[derive(Clone, Copy)]
+enum Left {
+    // It waits for the cofactor with the bit 0, and has to ask for this one with the bit 1.
+    High(Choice),
+    // It waits for the cofactor with the bit 1, and this is the answer of that with the bit 0.
+    Low(Node),
+}
+
+// What comes next: a call, or its answer.
+#[derive(Clone, Copy)]
+enum Turn {
+    Ask(Choice),
+    Answer(Node),
 }
 
 /// A store of nodes, with a memo of the answers of operations on them.
@@ -173,7 +206,7 @@ impl Ops {
 
     /// The node that is g where f is 1, and h where f is 0.
     ///
-    /// Operator `ite` of Brace, Rudell and Bryant (1990). It recurses over the levels on which the three depend.
+    /// Operator `ite` of Brace, Rudell and Bryant (1990). Calls that wait for the answers of their cofactors stand in a list.
     pub fn ite(&mut self, f: Node, g: Node, h: Node) -> Result<Node, Stop>
         requires f { IsNode self.old.triples f.0 }
         requires g { IsNode self.old.triples g.0 }
@@ -189,18 +222,89 @@ impl Ops {
         ensures diagram { IsDiagram self.new.triples }
     {
         let _count = self.count();
+        let mut pending = Vec::new(*self.memo.allocator());
+        let mut turn = Turn::Ask(Choice { f, g, h });
+        loop {
+            match turn {
+                Turn::Ask(call) => {
+                    turn = self.ask(&mut pending, call)?;
+                }
+                Turn::Answer(r) => {
+                    let Some(top) = pending.pop() else {
+                        return Ok(r);
+                    };
+                    turn = self.resume(&mut pending, top, r)?;
+                }
+            }
+        }
+    }
+
+    // Answers a call, or puts it on the list and asks for its cofactor with the bit 0.
+    fn ask(&self, pending: &mut Vec<Pending>, call: Choice) -> Result<Turn, Stop>
+        requires call { AreCalled self.now.triples call }
+        ensures asked { IfOk result (Asked self.now.triples pending.old.items pending.new.items call) }
+        ensures memory { result ≢ Err Stop.Nodes }
+    {
+        let _count = self.count();
+        let Choice { f, g, h } = call;
         if let Some(r) = self.known(f, g, h) {
-            return Ok(r);
+            return Ok(Turn::Answer(r));
         }
         let level = self.level(f).min(self.level(g)).min(self.level(h));
         let (f0, f1) = self.cofactors(f, level);
         let (g0, g1) = self.cofactors(g, level);
         let (h0, h1) = self.cofactors(h, level);
-        let lo = self.ite(f0, g0, h0)?;
-        let hi = self.ite(f1, g1, h1)?;
-        let r = self.node(level as u32, lo, hi)?;
-        self.note(f, g, h, r);
-        Ok(r)
+        let high = Choice {
+            f: f1,
+            g: g1,
+            h: h1,
+        };
+        let waiting = Pending {
+            call,
+            level: level as u32,
+            left: Left::High(high),
+        };
+        let Ok(_) = pending.push(waiting) else {
+            return Err(Stop::Memory);
+        };
+        Ok(Turn::Ask(Choice {
+            f: f0,
+            g: g0,
+            h: h0,
+        }))
+    }
+
+    // Hands an answer to the call that waits for it: it asks for its other cofactor, or has its own answer.
+    fn resume(&mut self, pending: &mut Vec<Pending>, top: Pending, r: Node) -> Result<Turn, Stop>
+        requires waits { Waits self.old.triples top }
+        requires half { IsHalf self.old.triples top.level (bit_of top.left) top.call r.0 }
+        ensures resumed { IfOk result (Resumed self.new.triples pending.old.items pending.new.items top) }
+        ensures grows { Grows self.old self.new }
+        ensures one { length self.new.triples ≤ length self.old.triples + made_of top.left }
+        ensures full { result ≡ Err Stop.Nodes → length self.new.triples ≡ self.new.budget }
+        ensures unbounded { self.old.budget ≡ 2 ^ 64 - 1 → result ≢ Err Stop.Nodes }
+        ensures fulls { self.new.fulls ≡ fulls_after_turn self.old.fulls result }
+        ensures diagram { IsDiagram self.new.triples }
+    {
+        let _count = self.count();
+        match top.left {
+            Left::High(high) => {
+                let waiting = Pending {
+                    left: Left::Low(r),
+                    ..top
+                };
+                let Ok(_) = pending.push(waiting) else {
+                    return Err(Stop::Memory);
+                };
+                Ok(Turn::Ask(high))
+            }
+            Left::Low(lo) => {
+                let n = self.node(top.level, lo, r)?;
+                let Choice { f, g, h } = top.call;
+                self.note(f, g, h, n);
+                Ok(Turn::Answer(n))
+            }
+        }
     }
 
     /// The node that is 1 where f is 0.

@@ -1,4 +1,4 @@
-use Rattle.std.proofs.Common.{subst, arith}
+use Rattle.std.proofs.Common.{◌∙◌, subst}
 use Rattle.cb_model.specs.Outside.{Wrote}
 use Rattle.cb_host.proofs.Writes.{Wrote-then, piece-more, piece-within}
 use Rattle.cb_host.proofs.write_all.Goals as goal
@@ -10,5 +10,5 @@ loop-at-preserved g c =
     record {
       within = piece-within c.args.piece.now c.loop-at.at c.in_ok-at.field-0 i.within b.within;
       bytes = subst (Wrote (g.S.Sink.written c.args.out.now) (g.S.Sink.written c.write.new.self)) (piece-more c.args.piece.now c.loop-at.at c.in_ok-at.field-0 i.within) (Wrote-then _ _ _ _ _ i.bytes b.bytes);
-      count = omega (arith, i.count, b.count);
+      count = b.kept ∙ i.count;
     }

@@ -1,0 +1,79 @@
+-- The list of calls of `ite` that wait for the answers of their cofactors.
+use Rattle.std.specs.Prelude.{◌≡◌, ◌⊎◌, ℕ, ◌+◌, ◌-◌, ◌<◌, ◌≤◌, ◌^◌, min, Bool, true, false, List, [], ◌∷◌, ◌++◌, if◌then◌else◌, Result, Ok, Err}
+use Rattle.cb_model.specs.Bits.{Bits, put}
+use Rattle.cb_dd.specs.declared.Triple.{Triple}
+use Rattle.cb_dd.specs.declared.Stop.{Stop}
+use Rattle.cb_dd.specs.declared.Stop.TheVariants.{Nodes, Memory}
+use Rattle.cb_dd.specs.Diagram.{IsNode, IsChild, function_of, level_of}
+use Rattle.cb_ops.specs.Ops.{IsIte, IsCofactor}
+use Rattle.cb_ops.specs.declared.Choice.{Choice}
+use Rattle.cb_ops.specs.declared.Pending.{Pending}
+use Rattle.cb_ops.specs.declared.Left.{Left}
+use Rattle.cb_ops.specs.declared.Left.TheVariants as left
+use Rattle.cb_ops.specs.declared.Turn.{Turn}
+use Rattle.cb_ops.specs.declared.Turn.TheVariants as turn
+
+-- the value of a call
+abbrev pub value_of : List Triple → Choice → Bits → Bool
+value_of ts c a = if function_of ts c.f.0 a then function_of ts c.g.0 a else function_of ts c.h.0 a
+
+-- the three are nodes
+pub record AreCalled (ts : List Triple) (c : Choice) : Type 0 where
+  pub f : IsNode ts c.f.0
+  pub g : IsNode ts c.g.0
+  pub h : IsNode ts c.h.0
+
+-- the second call is the first with the bit at the level
+pub record IsPart (ts : List Triple) (level : ℕ) (bit : Bool) (c d : Choice) : Type 0 where
+  pub f : IsCofactor ts c.f.0 level bit d.f.0
+  pub g : IsCofactor ts c.g.0 level bit d.g.0
+  pub h : IsCofactor ts c.h.0 level bit d.h.0
+
+-- the node is a child at the level, and answers the call with the bit there
+pub record IsHalf (ts : List Triple) (level : ℕ) (bit : Bool) (c : Choice) (r : ℕ) : Type 0 where
+  pub child : IsChild ts level r
+  pub at : (a : Bits) → function_of ts r a ≡ value_of ts c (put level bit a)
+
+-- the bit of the cofactor that a waiting call waits for
+abbrev pub bit_of : Left → Bool
+bit_of (left.High d) = false
+bit_of (left.Low r) = true
+
+-- the nodes that are made when the answer comes
+abbrev pub made_of : Left → ℕ
+made_of (left.High d) = 0
+made_of (left.Low r) = 1
+
+-- the call with the bit 1, or the answer with the bit 0
+abbrev pub HasLeft : List Triple → ℕ → Choice → Left → Type 0
+HasLeft ts level c (left.High d) = IsPart ts level true c d
+HasLeft ts level c (left.Low r) = IsHalf ts level false c r.0
+
+-- a call waits at the least of its levels
+pub record Waits (ts : List Triple) (x : Pending) : Type 0 where
+  pub call : AreCalled ts x.call
+  pub inner : 2 ≤ x.call.f.0
+  pub small : x.level < 2 ^ 32
+  pub least : x.level ≡ min (min (level_of ts x.call.f.0) (level_of ts x.call.g.0)) (level_of ts x.call.h.0)
+  pub left : HasLeft ts x.level x.call x.left
+
+-- the node answers the call
+pub record IsAnswered (ts : List Triple) (c : Choice) (r : ℕ) : Type 0 where
+  pub node : IsNode ts r
+  pub ite : IsIte ts ts c.f.0 c.g.0 c.h.0 r
+
+-- a call was answered at once, or stands last in the list, and its cofactor is asked
+abbrev pub Asked : List Triple → List Pending → List Pending → Choice → Turn → Type 0
+Asked ts old new c (turn.Answer r) = (new ≡ old) × IsAnswered ts c r.0
+Asked ts old new c (turn.Ask d) = (x : Pending) × ((new ≡ old ++ x ∷ []) × (x.call ≡ c) × (bit_of x.left ≡ false) × Waits ts x × IsPart ts x.level false c d)
+
+-- the other cofactor of the call is asked, and it stands last in the list; or it is answered
+abbrev pub Resumed : List Triple → List Pending → List Pending → Pending → Turn → Type 0
+Resumed ts old new top (turn.Answer r) = (new ≡ old) × (bit_of top.left ≡ true) × IsAnswered ts top.call r.0
+Resumed ts old new top (turn.Ask d) = (bit_of top.left ≡ false) × ((x : Pending) × ((new ≡ old ++ x ∷ []) × (x.call ≡ top.call) × (x.level ≡ top.level) × (bit_of x.left ≡ true) × Waits ts x × IsPart ts x.level true top.call d))
+
+-- the number of refusals for nodes after a turn
+abbrev pub fulls_after_turn : ℕ → Result Turn Stop → ℕ
+fulls_after_turn fulls (Ok t) = fulls
+fulls_after_turn fulls (Err Memory) = fulls
+fulls_after_turn fulls (Err Nodes) = min (fulls + 1) (2 ^ 64 - 1)
