@@ -4,6 +4,8 @@ pub mod Form
 pub mod Tables
 pub mod Stays
 pub mod Determined
+pub mod Begins
+pub mod Printed
 pub mod OneValuation
 pub mod Depends
 pub mod Decided
@@ -15,3 +17,8 @@ pub mod OneShape
 pub mod OneLine
 pub mod WrittenForm
 pub mod LineOfTokens
+pub mod Listed
+pub mod SortedTrees
+pub mod SortedGoals
+pub mod Counts
+pub mod Fits
