@@ -2,10 +2,10 @@
 
 ghost use Rattle.std.specs.Prelude.{[], ◌∷◌, codes};
 
-use super::*;
 use cb_dd::Node;
 use cb_host::MemSink;
 use cb_ops::Ops;
+use cb_show::{Names, number, plain_name, value};
 use std::test::Fail;
 
 /// One constant and one name, `a`.
