@@ -148,8 +148,21 @@ pub fn solve(
     let solved = solve_in(alloc, &mut store, variables, goals);
     // What the store promises of its number of nodes holds here too, after a stop.
     let _count = store.read().count();
-    if solved? { Ok(Some(store)) } else { Ok(None) }
+    match solved {
+        Ok(true) => Ok(Some(store)),
+        Ok(false) => {
+            end(store);
+            Ok(None)
+        }
+        Err(stop) => {
+            end(store);
+            Err(stop)
+        }
+    }
 }
+
+// Lets a store go.
+fn end(_store: Store) {}
 
 #[cfg(test)]
 mod tests {

@@ -21,9 +21,9 @@ use Rattle.cb_solution.proofs.Solved.{listed-here, listed-there, listed-cases}
 use Rattle.cb_elim.specs.declared.Change.{Change}
 use Rattle.cb_elim.specs.Store.{Seen, IsStore, IsArgument, IsAsBefore, OnlyNodes, AreThere, with_fulls, stands_in, value_in, view_of}
 use Rattle.cb_elim.specs.Equation.{IsElimination, IsGeneral, HasNoSolution, differ}
-use Rattle.cb_elim.specs.Unified.{IsSolved, HasNone, HasSameValues, OnlyValues, IsMostGeneral, IsReproductive}
+use Rattle.cb_elim.specs.Unified.{IsSolved, IsSolutionOf, HasNone, HasSameValues, OnlyValues, IsMostGeneral, IsReproductive}
 use Rattle.cb_elim.specs.Moments.{KeepsMoments, changes_from, undone}
-use Rattle.cb_elim.proofs.Views.{with_values, store-fulls}
+use Rattle.cb_elim.proofs.Views.{with_values, argument-fulls, only-nodes, store-fulls}
 use Rattle.cb_elim.proofs.Back.{keeps}
 use Rattle.cb_elim.proofs.Changes.{undone-from, changes-within, changes-same, each-append}
 
@@ -158,6 +158,11 @@ module _ (now s : Seen) (is : s ≡ now) (st : IsStore now) (f g : ℕ) (a : IsA
     solve-same = subst (λ (o : Seen). HasSameValues (view_of o) (view_of (record s { slots = vs; trail = cs; nodes = t }))) is
         (is-same s inside f g (argument f a) (argument g b) gen.levels gen.elimination gen.none_left vs cs t gen.at)
 
+    pub solve-solution : IsSolutionOf (view_of now) (view_of (record s { slots = vs; trail = cs; nodes = t })) (function_of now.nodes.triples f) (function_of now.nodes.triples g)
+    unfolding view_of
+    solve-solution = subst (λ (o : Seen). IsSolutionOf (view_of o) (view_of (record s { slots = vs; trail = cs; nodes = t })) (function_of o.nodes.triples f) (function_of o.nodes.triples g)) is
+        (record { levels = gen.levels; elimination = gen.elimination; none_left = gen.none_left; values = gen.at })
+
     module _ (trail : cs ≡ s.trail ++ changes_from 0 s.slots vs) where
       pub solve-store : IsStore (record s { slots = vs; trail = cs; nodes = t })
       solve-store = store-solved s inside f g (argument f a) (argument g b) gen.levels gen.elimination gen.none_left vs cs t gen.at gen.there gen.number
@@ -224,12 +229,42 @@ cut-before old mid s is o n same u cut budget fulls = record {
     t = cut ∙ ap (λ (v : Seen). take n v.nodes.triples) is ∙ ap (λ k. take k mid.nodes.triples) same ∙ ap (λ ts. take (length old.nodes.triples) ts) o.grows.triples
         ∙ take-append-le (length old.nodes.triples) old.nodes.triples o.grows.more (omega arith) ∙ take-length old.nodes.triples
 
+pub only-before : (old new : Seen) → IsAsBefore old new → OnlyNodes old new
+only-before old new b = subst (λ (o : Seen). OnlyNodes old o) (sym b.same) (record {
+  same = refl;
+  grows = record { budget = refl; more = []; triples = sym (append-nil old.nodes.triples); fulls = b.fulls };
+  arguments = λ n a. argument-fulls new.nodes.fulls old n a;
+})
+
+-- nodes that were made are cut away again
+pub nodes-cut : (now s : Seen) → s ≡ now → IsStore now → (t u : Store) → Grows s.nodes t → (n : ℕ) → n ≡ length s.nodes.triples → u.triples ≡ take n t.triples → u.budget ≡ t.budget → u.fulls ≡ t.fulls →
+    IsAsBefore now (record s { nodes = u })
+nodes-cut now s is st t u g n e cut budget fulls =
+    cut-before now (record s { nodes = t }) (record s { nodes = t }) refl (only-nodes now s is st t g) n (e ∙ ap (λ (o : Seen). length o.nodes.triples) is) u cut budget fulls
+
 -- an equation of a node with itself
 pub same-solved : (s : Seen) (f g : ℕ) → f ≡ g → IsSolved (view_of s) (view_of s) (function_of s.nodes.triples f) (function_of s.nodes.triples g)
 same-solved s f g e = record {
   left = λ a b. ((λ r. (r, ap (λ n. function_of s.nodes.triples n (point (view_of s).stands a b)) e)), (λ w. w.0));
   some = λ a. ((λ x. (view_of s).values x a), record { at = a; agrees = λ k h. refl; gives = λ x v. refl });
 }
+
+pub same-solution : (s : Seen) (f g : ℕ) → f ≡ g → IsSolutionOf (view_of s) (view_of s) (function_of s.nodes.triples f) (function_of s.nodes.triples g)
+unfolding rest solved
+same-solution s f g e = record {
+  levels = [];
+  elimination = record {
+    falls = tt;
+    free = λ l h. absurd (true≢false (sym h));
+    needed = λ l h. absurd (true≢false (sym h));
+    whole = λ p q h. none p ∙ sym (none q);
+  };
+  none_left = none;
+  values = λ x p. refl;
+}
+  where
+    none : (p : Bits) → xor (function_of s.nodes.triples f p) (function_of s.nodes.triples g p) ≡ false
+    none p = xor-equal (function_of s.nodes.triples f p) (function_of s.nodes.triples g p) (ap (λ n. function_of s.nodes.triples n p) e)
 
 pub same-values : (s : Seen) → OnlyValues s s
 same-values s = record {

@@ -14,3 +14,4 @@ pub mod Expressions
 pub mod Laws
 pub mod Stays
 pub mod Sizes
+mod Added

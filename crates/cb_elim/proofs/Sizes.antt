@@ -24,7 +24,7 @@ use Rattle.cb_ops.proofs.Gather.{agree-at}
 use Rattle.cb_ops.proofs.Ite.{grown-function}
 use Rattle.cb_elim.specs.declared.Slot.{Slot}
 use Rattle.cb_elim.specs.declared.expression.Operator.{Operator}
-use Rattle.cb_elim.specs.Store.{Seen, AreThere, value_in}
+use Rattle.cb_elim.specs.Store.{Seen, IsAsBefore, AreThere, value_in}
 use Rattle.cb_elim.specs.Equation.{DependEach}
 use Rattle.cb_elim.specs.Expression.{AreLevels, ChainRoom, ExprCause, ExprRoom, chain_value, variable_bits}
 use Rattle.cb_elim.specs.Unified.{HasCause}
@@ -291,5 +291,13 @@ module _ (now s : Seen) (is : s ≡ now) (t : Store) where
         omega arith;
   })
 
+  -- the same after a cut
+  pub cut-cause : (vars : ℕ) (e : Expr) (u : Store) → Grows s.nodes t → in_scope now.constants vars e ≡ true → ExprRoom s.slots vars e s.nodes t → 0 < expr_size e → length t.triples ≡ t.budget → t.fulls ≡ min (s.nodes.fulls + 1) (2 ^ 64 - 1) →
+      u.fulls ≡ t.fulls → ExprCause now (record s { nodes = u }) e
+  cut-cause vars e u grows scope room some full rose fulls = let w = expr-cause vars e grows scope room some full rose in record { rose = let r = w.rose in omega arith; below = w.below }
+
   pub one-cause : length s.nodes.triples ≡ s.nodes.budget → t.fulls ≡ min (s.nodes.fulls + 1) (2 ^ 64 - 1) → HasCause now (record s { nodes = t }) 1
   one-cause full rose = subst (λ (o : Seen). HasCause o (record s { nodes = t }) 1) is (record { rose = omega arith; below = omega arith })
+
+pub room-as-before : (old new : Seen) (vars : ℕ) (e : Expr) → IsAsBefore old new → ExprRoom old.slots vars e old.nodes new.nodes
+room-as-before old new vars e b = record { most = λ c ls scope w. let h : length new.nodes.triples ≡ length old.nodes.triples = ap (λ (o : Seen). length o.nodes.triples) b.same in omega arith }

@@ -10,14 +10,15 @@ use Rattle.cb_dd.specs.declared.Triple.{Triple}
 use Rattle.cb_dd.specs.Diagram.{Store, IsNode, function_of}
 use Rattle.cb_ops.specs.Ops.{Grows, StandsFor}
 use Rattle.cb_boole.specs.Elimination.{Function}
-use Rattle.cb_boole.specs.View.{View, IsGood, IsFit, InRange, with_at, with_slot, with_variable}
+use Rattle.cb_boole.specs.View.{View, IsGood, IsFit, InRange, point, with_at, with_slot, with_variable}
 use Rattle.cb_boole.proofs.Grow.{with_same, with_other, good_with_slot, fit_with_slot, good_with_variable, fit_with_variable, good_variables, range_new, range_old}
 use Rattle.cb_elim.specs.declared.Free.{Free}
 use Rattle.cb_elim.specs.declared.Change.{Change}
-use Rattle.cb_elim.specs.Store.{Seen, IsStore, IsArgument, AreThere, IsVariableOf, IsNewVariable, HasSameRange, stands_in, value_in, view_of}
+use Rattle.cb_elim.specs.Store.{Seen, AddsSlot, IsStore, IsArgument, AreThere, IsVariableOf, IsNewVariable, HasSameRange, stands_in, value_in, view_of}
 use Rattle.cb_elim.specs.Moments.{KeepsMoments}
 use Rattle.cb_elim.proofs.Views.{with_values, store-still, store-fulls, view-still, argument-still}
 use Rattle.cb_elim.proofs.Back.{keeps}
+use Rattle.cb_elim.proofs.Added.{slot-adds, variable-adds}
 
 -- ---- values, one more at the end
 
@@ -81,6 +82,12 @@ held-range s f st a b = (
   where
     still : (y : ℕ) → IsVariableOf s.free y → (p : Bits) → with_at (value_in s.nodes.triples s.slots) (length s.slots) (function_of s.nodes.triples f.0) y p ≡ value_in s.nodes.triples s.slots y p
     still y v p = ap (λ (g : Function). g p) (with_other (value_in s.nodes.triples s.slots) (length s.slots) (function_of s.nodes.triples f.0) y (λ e. no-slot s st (subst (λ x. IsVariableOf s.free x) e v)))
+
+pub held-adds : (s : Seen) (f : Node) → IsStore s →
+    AddsSlot (view_of s) (view_of (record s { slots = s.slots ++ f ∷ [] })) (length s.slots) (λ a w. function_of s.nodes.triples f.0 (point (view_of s).stands a w))
+unfolding view_of
+held-adds s f st = subst (λ (S : View). AddsSlot (view_of s) S (length s.slots) (λ a w. function_of s.nodes.triples f.0 (point (stands_in s.free) a w))) (sym (view-held s f))
+    (slot-adds (view_of s) st.good (length s.slots) (no-slot s st) (function_of s.nodes.triples f.0))
 
 take-first : (ns : List Node) (n : Node) → take (length ns) (ns ++ n ∷ []) ≡ ns
 take-first ns n = take-append-le (length ns) ns (n ∷ []) (omega arith) ∙ take-length ns
@@ -214,6 +221,11 @@ module _ (s : Seen) (n : Node) (st : IsStore s) (w : IsNode s.nodes.triples n.0)
     }),
   )
 
+  pub new-adds : AddsSlot (view_of s) (view_of (with_new s n)) (length s.slots) (λ a w. w (length s.slots))
+  unfolding view_of
+  new-adds = subst (λ (S : View). AddsSlot (view_of s) S (length s.slots) (λ a w. w (length s.slots))) (sym view-new)
+      (let q = variable-adds (view_of s) st.good (length s.slots) (no-slot s st) s.drawn (unused s st) above in record { stays = q.stays; added = q.added })
+
   pub new-argument : (m : ℕ) → IsArgument s m → IsArgument (with_new s n) m
   unfolding view_of
   new-argument m a = record {
@@ -251,6 +263,13 @@ arguments-pushed now s is st f items e n a =
     subst (λ (ns : List Node). IsArgument (record s { slots = ns }) n) (sym e)
     (held-argument s f (subst IsStore (sym is) st) n (subst (λ (o : Seen). IsArgument o n) (sym is) a))
 
+pub adds-pushed : (now s : Seen) → s ≡ now → IsStore now → (f : Node) (items : List Node) → items ≡ s.slots ++ f ∷ [] →
+    AddsSlot (view_of now) (view_of (record s { slots = items })) (length now.slots) (λ a w. function_of now.nodes.triples f.0 (point (view_of now).stands a w))
+adds-pushed now s is st f items e =
+    subst (λ (ns : List Node). AddsSlot (view_of now) (view_of (record s { slots = ns })) (length now.slots) (λ a w. function_of now.nodes.triples f.0 (point (view_of now).stands a w))) (sym e)
+    (subst (λ (o : Seen). AddsSlot (view_of o) (view_of (record s { slots = s.slots ++ f ∷ [] })) (length o.slots) (λ a w. function_of o.nodes.triples f.0 (point (view_of o).stands a w))) is
+    (held-adds s f (subst IsStore (sym is) st)))
+
 -- a variable more, as the code leaves it
 module _ (now s : Seen) (is : s ≡ now) (st : IsStore now) (t : Store) (g : Grows s.nodes t) (n : Node) (w : IsNode t.triples n.0) (own : StandsFor t.triples n.0 (λ p. p s.drawn))
     (x : ℕ) (xe : x ≡ length s.slots) (free : List Free) (fe : free ≡ s.free ++ record { level = s.drawn; slot = x } ∷ []) (slots : List Node) (se : slots ≡ s.slots ++ n ∷ []) where
@@ -280,6 +299,12 @@ module _ (now s : Seen) (is : s ≡ now) (st : IsStore now) (t : Store) (g : Gro
   variable-range = subst (λ (o : Seen). HasSameRange (view_of now) (view_of o)) new-is
       (subst (λ (S : View). HasSameRange S (view_of (with_new (record s { nodes = t }) n))) (view-still s t g inside.nodes ∙ ap view_of is)
       (range-new (record s { nodes = t }) n grown-store w own))
+
+  pub variable-adding : AddsSlot (view_of now) (view_of (record { constants = s.constants; drawn = s.drawn + 1; free = free; slots = slots; trail = s.trail; nodes = t })) (length now.slots) (λ a w. w (length now.slots))
+  variable-adding = subst (λ (o : Seen). AddsSlot (view_of now) (view_of o) (length now.slots) (λ a w. w (length now.slots))) new-is
+      (subst (λ k. AddsSlot (view_of now) (view_of (with_new (record s { nodes = t }) n)) k (λ a w. w k)) (ap (λ (o : Seen). length o.slots) is)
+      (subst (λ (S : View). AddsSlot S (view_of (with_new (record s { nodes = t }) n)) (length s.slots) (λ a w. w (length s.slots))) (view-still s t g inside.nodes ∙ ap view_of is)
+      (new-adds (record s { nodes = t }) n grown-store w own)))
 
   pub variable-arguments : (m : ℕ) → IsArgument now m → IsArgument (record { constants = s.constants; drawn = s.drawn + 1; free = free; slots = slots; trail = s.trail; nodes = t }) m
   variable-arguments m a = subst (λ (o : Seen). IsArgument o m) new-is

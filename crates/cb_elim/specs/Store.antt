@@ -1,12 +1,12 @@
 -- What contracts see of a store of Boolean variables.
-use Rattle.std.specs.Prelude.{◌≡◌, ℕ, zero, suc, ◌+◌, ◌<◌, ◌≤◌, false, nat_eq, List, [], ◌∷◌, ◌++◌, length, Option, Some, None, ◌⊎◌, ◌↔◌, if◌then◌else◌}
+use Rattle.std.specs.Prelude.{◌≡◌, ◌≢◌, ℕ, zero, suc, ◌+◌, ◌<◌, ◌≤◌, Bool, false, nat_eq, List, [], ◌∷◌, ◌++◌, length, Option, Some, None, ◌⊎◌, ◌↔◌, if◌then◌else◌}
 use Rattle.cb_model.specs.Bits.{Bits, Each}
 use Rattle.cb_dd.specs.declared.Triple.{Triple}
 use Rattle.cb_dd.specs.declared.Node.{Node}
 use Rattle.cb_dd.specs.Diagram.{Store, IsNode, function_of}
 use Rattle.cb_ops.specs.Ops.{Grows}
 use Rattle.cb_boole.specs.Elimination.{Function}
-use Rattle.cb_boole.specs.View.{View, IsGood, IsFit, InRange}
+use Rattle.cb_boole.specs.View.{View, IsGood, IsFit, InRange, point}
 use Rattle.cb_elim.specs.declared.Free.{Free}
 use Rattle.cb_elim.specs.declared.Change.{Change}
 
@@ -105,3 +105,12 @@ pub record IsNewVariable (old new : Seen) (x : ℕ) : Type 0 where
 -- the same pairs are in the range
 abbrev pub HasSameRange : View → View → Type 0
 HasSameRange S T = (a b : Bits) → InRange S a b ↔ InRange T a b
+
+-- the bits of the slots where the variables have these bits: each free level has that of its variable
+abbrev pub slot_bits : View → Bits → Bits → Bits
+slot_bits S a w = λ x. S.values x (point S.stands a w)
+
+-- Slot x was added. The slots before it keep their bits, whatever bit is given to x as a variable; its own is this.
+pub record AddsSlot (S S' : View) (x : ℕ) (bit : Bits → Bits → Bool) : Type 0 where
+  pub stays : (a w v : Bits) → ((y : ℕ) → y ≢ x → w y ≡ v y) → (y : ℕ) → y < x → slot_bits S' a v y ≡ slot_bits S a w y
+  pub added : (a w : Bits) → slot_bits S' a w x ≡ bit a w

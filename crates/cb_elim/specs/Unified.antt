@@ -1,21 +1,29 @@
 -- What an equation makes of a store.
-use Rattle.std.specs.Prelude.{◌≡◌, ◌↔◌, ℕ, ◌+◌, ◌*◌, ◌^◌, ◌<◌, List, ◌++◌, length}
-use Rattle.cb_model.specs.Bits.{Bits}
+use Rattle.std.specs.Prelude.{◌≡◌, ◌↔◌, ℕ, ◌+◌, ◌*◌, ◌^◌, ◌<◌, false, List, ◌++◌, length}
+use Rattle.cb_model.specs.Bits.{Bits, xor}
 use Rattle.cb_model.specs.Equations.{Table}
 use Rattle.cb_model.specs.Outside.{Rose}
 use Rattle.cb_ops.specs.Ops.{Grows, DependsOn}
-use Rattle.cb_boole.specs.Elimination.{Function}
+use Rattle.cb_boole.specs.Elimination.{Function, rest, solved}
 use Rattle.cb_boole.specs.View.{View, InRange, point}
 use Rattle.cb_elim.specs.declared.Change.{Change}
 use Rattle.cb_elim.specs.Store.{Seen}
 use Rattle.cb_elim.specs.Moments.{changes_from, undone}
-use Rattle.cb_elim.specs.Equation.{DependEach}
+use Rattle.cb_elim.specs.Equation.{DependEach, IsElimination}
 
 -- The new range is what is left of the old one where the two functions agree, each free level having the bit of its
 -- variable; and something is left at every assignment.
 pub record IsSolved (S S' : View) (f g : Function) : Type 0 where
   pub left : (a b : Bits) → InRange S' a b ↔ (InRange S a b × (f (point S.stands a b) ≡ g (point S.stands a b)))
   pub some : (a : Bits) → (b : Bits) × InRange S' a b
+
+-- The new values are the old ones at the solution of f = g for the levels on which the two differ, but for the constants:
+-- the greatest is eliminated first, each level's own bit is its parameter, and elimination leaves nothing.
+pub record IsSolutionOf (S S' : View) (f g : Function) : Type 0 where
+  pub levels : List ℕ
+  pub elimination : IsElimination S.constants (λ p. xor (f p) (g p)) levels
+  pub none_left : (p : Bits) → rest levels (λ p. xor (f p) (g p)) p ≡ false
+  pub values : (x : ℕ) (p : Bits) → S'.values x p ≡ S.values x (solved levels (λ p. xor (f p) (g p)) p)
 
 -- At each pair that is left each slot's value is what it was, that of a slot that is no variable's too, each free level
 -- having the bit of its variable.

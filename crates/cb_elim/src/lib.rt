@@ -10,16 +10,16 @@ ghost use Rattle.cb_ops.specs.Ops.{Grows, StandsFor};
 ghost use Rattle.cb_ops.specs.Substitute.{AreNodes};
 ghost use Rattle.std.specs.Option.{option_map};
 ghost use Rattle.cb_boole.specs.Elimination.{DependsOnly};
-ghost use Rattle.cb_boole.specs.View.{InRange, IsFit};
+ghost use Rattle.cb_boole.specs.View.{InRange, IsFit, point};
 ghost use Rattle.cb_solution.specs.Solution.{IsFalling, has_refused};
-ghost use Rattle.cb_elim.specs.Store.{Seen, IsStore, IsArgument, IsAsBefore, OnlyNodes, AreThere, HasSameRange, IsNewVariable, empty, value_in, view_of, with_fulls};
+ghost use Rattle.cb_elim.specs.Store.{Seen, AddsSlot, IsStore, IsArgument, IsAsBefore, OnlyNodes, AreThere, HasSameRange, IsNewVariable, empty, value_in, view_of, with_fulls};
 ghost use Rattle.cb_model.specs.Values.{expr_value, in_scope};
 ghost use Rattle.std.specs.Borrow.{sem};
 ghost use Rattle.cb_elim.specs.Lending.{LendsOps};
 ghost use Rattle.cb_elim.specs.Laws.{NoneIsRefuted, RangeGrows, SolvedIsSolvable};
 ghost use Rattle.cb_elim.specs.Expression.{ExprCause, ExprRoom, variable_bits};
 ghost use Rattle.cb_elim.specs.Equation.{GeneralRoom};
-ghost use Rattle.cb_elim.specs.Unified.{HasCause, HasNone, HasSameValues, IsMostGeneral, IsReproductive, IsSolved, OnlyValues, UnifyCause};
+ghost use Rattle.cb_elim.specs.Unified.{HasCause, HasNone, HasSameValues, IsMostGeneral, IsReproductive, IsSolutionOf, IsSolved, OnlyValues, UnifyCause};
 ghost use Rattle.cb_elim.specs.Moments.{Moment, IsMoment, KeepsMoments, changes_from, moment_of, reverted, rewritten_since, undone, value_since};
 
 mod equation;
@@ -152,12 +152,15 @@ impl Store {
     }
 
     /// The node of a constant.
+    ///
+    /// After a stop the store is as before, but for its count of refusals for nodes.
     pub fn constant(&mut self, k: u32) -> Result<Node, Stop>
         requires store { IsStore self.old }
         requires constant { k < self.old.constants }
         ensures function { IfOk result (λ n. StandsFor self.new.nodes.triples n.0 (λ p. p k)) }
         ensures argument { IfOk result (λ n. IsArgument self.new n.0) }
         ensures only_nodes { OnlyNodes self.old self.new }
+        ensures as_before { OnErr result (IsAsBefore self.old self.new) }
         ensures moments { KeepsMoments self.old self.new }
         ensures store { IsStore self.new }
         ensures one { length self.new.nodes.triples ≤ length self.old.nodes.triples + 1 }
@@ -170,21 +173,29 @@ impl Store {
     }
 
     /// The node of an expression. A variable has the value of its slot; one that has none counts as 0.
+    ///
+    /// After a stop the store is as before, but for its count of refusals for nodes.
     pub fn expr(&mut self, e: &Expr, vars: &[Option<Slot>]) -> Result<Node, Stop>
         requires store { IsStore self.old }
         requires scope { in_scope self.old.constants (length vars.now) e.now ≡ true }
         ensures function { IfOk result (λ n. (p : Bits) → function_of self.new.nodes.triples n.0 p ≡ expr_value p (variable_bits self.old.nodes.triples self.old.slots vars.now p) e.now) }
         ensures argument { IfOk result (λ n. IsArgument self.new n.0) }
         ensures only_nodes { OnlyNodes self.old self.new }
+        ensures as_before { OnErr result (IsAsBefore self.old self.new) }
         ensures moments { KeepsMoments self.old self.new }
         ensures store { IsStore self.new }
         ensures room { ExprRoom self.old.slots (length vars.now) e.now self.old.nodes self.new.nodes }
-        ensures nodes { result ≡ Err Stop.Nodes → length self.new.nodes.triples ≡ self.new.nodes.budget }
         ensures cause { result ≡ Err Stop.Nodes → ExprCause self.old self.new e.now }
         ensures fulls { self.new.nodes.fulls ≡ fulls_after self.old.nodes.fulls result }
     {
-        let n = expression(&mut self.ops, &self.slots, vars, e)?;
-        Ok(n)
+        let before = self.ops.mark();
+        match expression(&mut self.ops, &self.slots, vars, e) {
+            Ok(n) => Ok(n),
+            Err(stop) => {
+                self.ops.cut(before);
+                Err(stop)
+            }
+        }
     }
 
     /// A slot with this value.
@@ -194,6 +205,7 @@ impl Store {
         ensures held { IfOk result (λ s. (s.0 ≡ length self.old.slots) × (self.new ≡ record self.old { slots = self.old.slots ++ f ∷ [] })) }
         ensures refused { OnErr result (self.new ≡ self.old) }
         ensures range { OnOk result (HasSameRange (view_of self.old) (view_of self.new)) }
+        ensures stays { OnOk result (AddsSlot (view_of self.old) (view_of self.new) (length self.old.slots) (λ a w. function_of self.old.nodes.triples f.0 (point (view_of self.old).stands a w))) }
         ensures arguments { OnOk result ((n : ℕ) → IsArgument self.old n → IsArgument self.new n) }
         ensures moments { KeepsMoments self.old self.new }
         ensures store { IsStore self.new }
@@ -298,6 +310,7 @@ impl Store {
         requires level { self.old.drawn + 1 < 2 ^ 32 }
         ensures slot { IfOk result (λ s. IsNewVariable self.old self.new s.0) }
         ensures range { OnOk result (HasSameRange (view_of self.old) (view_of self.new)) }
+        ensures stays { OnOk result (AddsSlot (view_of self.old) (view_of self.new) (length self.old.slots) (λ a w. w (length self.old.slots))) }
         ensures arguments { OnOk result ((n : ℕ) → IsArgument self.old n → IsArgument self.new n) }
         ensures as_before { OnErr result (IsAsBefore self.old self.new) }
         ensures moments { KeepsMoments self.old self.new }
@@ -334,6 +347,7 @@ impl Store {
         requires f { IsArgument self.old f.0 }
         requires g { IsArgument self.old g.0 }
         ensures solved { result ≡ Ok true → IsSolved (view_of self.old) (view_of self.new) (function_of self.old.nodes.triples f.0) (function_of self.old.nodes.triples g.0) }
+        ensures solution { result ≡ Ok true → IsSolutionOf (view_of self.old) (view_of self.new) (function_of self.old.nodes.triples f.0) (function_of self.old.nodes.triples g.0) }
         ensures none { result ≡ Ok false → HasNone (view_of self.old) (function_of self.old.nodes.triples f.0) (function_of self.old.nodes.triples g.0) }
         ensures values { result ≡ Ok true → OnlyValues self.old self.new }
         ensures slots { result ≡ Ok true → HasSameValues (view_of self.old) (view_of self.new) }
@@ -368,6 +382,7 @@ impl Store {
         requires f { IsArgument self.old f.0 }
         requires g { IsArgument self.old g.0 }
         ensures solved { result ≡ Ok true → IsSolved (view_of self.old) (view_of self.new) (function_of self.old.nodes.triples f.0) (function_of self.old.nodes.triples g.0) }
+        ensures solution { result ≡ Ok true → IsSolutionOf (view_of self.old) (view_of self.new) (function_of self.old.nodes.triples f.0) (function_of self.old.nodes.triples g.0) }
         ensures none { result ≡ Ok false → HasNone (view_of self.old) (function_of self.old.nodes.triples f.0) (function_of self.old.nodes.triples g.0) }
         ensures values { result ≡ Ok true → OnlyValues self.old self.new }
         ensures slots { result ≡ Ok true → HasSameValues (view_of self.old) (view_of self.new) }

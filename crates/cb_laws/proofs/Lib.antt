@@ -6,7 +6,6 @@ pub mod Stays
 pub mod Determined
 pub mod Begins
 pub mod Printed
-pub mod OneValuation
 pub mod Depends
 pub mod Decided
 pub mod Shapes

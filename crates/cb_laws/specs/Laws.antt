@@ -1,11 +1,10 @@
 -- Laws of the definitions: each is the contract of a function of this crate.
-use Rattle.std.specs.Prelude.{◌≡◌, ℕ, ◌+◌, ◌<◌, ◌≤◌, ◌⊎◌, Bool, true, not, ◌&&◌, MatchBool, List, [], ◌∷◌, ◌++◌, map, length, flat_map, ◌↔◌, Option, None, Contains}
+use Rattle.std.specs.Prelude.{◌≡◌, ℕ, ◌<◌, ◌≤◌, ◌⊎◌, Bool, true, not, ◌&&◌, MatchBool, List, [], ◌∷◌, ◌++◌, map, length, flat_map, ◌↔◌, Option, None, Contains}
 use Rattle.std.specs.List.{list_all}
 use Rattle.cb_model.specs.declared.Expr.{Expr}
 use Rattle.cb_model.specs.declared.Tree.{Tree}
 use Rattle.cb_model.specs.declared.Tree.TheVariants as tree
 use Rattle.cb_model.specs.declared.Goal.{Goal}
-use Rattle.cb_model.specs.declared.Circuit.{Circuit}
 use Rattle.cb_model.specs.declared.Clause.{Clause}
 use Rattle.cb_model.specs.Directives.{Sign, has_sign, Declared, sorts_of, directives, heads}
 use Rattle.cb_model.specs.Sorted.{clause_fits, goal_fits}
@@ -14,7 +13,6 @@ use Rattle.cb_model.specs.Output.{Loaded, IsLoaded, IsQuery}
 use Rattle.cb_model.specs.Bits.{Bits, Each, bits_of, some_bits, every_bits, xor}
 use Rattle.cb_model.specs.Text.{Text}
 use Rattle.cb_model.specs.Values.{Admitted, World, expr_value, in_scope}
-use Rattle.cb_model.specs.Circuits.{Consistent, Ordered}
 use Rattle.cb_model.specs.Equations.{Item, Pair, Solvable, Refuted, Table, ReadsBelow}
 use Rattle.cb_model.specs.Program.{Program}
 use Rattle.cb_model.specs.Derivation.{Ready, Entry, Branch, Step, Query, Note, End, Plain, SoFar, printed_of}
@@ -151,13 +149,6 @@ abbrev pub TreesFit : Type 0
 TreesFit = (file : Text) (l : Loaded) (gs : List FormGoal) (p : Program) (q : Query) (names : Names) → IsLoaded file l →
     BodyRefusal l.declared (heads l.clauses) (module_names l.clauses) (query_body gs) None → IsQuery l gs p q names →
     (list_all (clause_fits p.world.arguments) p.clauses ≡ true) × (list_all (goal_fits p.world.arguments q.sorts) q.goals ≡ true)
-
--- ---- circuits
-
--- a circuit in order has exactly one consistent valuation for each input
-abbrev pub OneValuation : Type 0
-OneValuation = (c : Circuit) (input : List Bool) → c.nets ≡ c.inputs + length c.gates → Ordered c.inputs c.gates → length input ≡ c.inputs →
-    (v : List Bool) × Consistent c input v × ((w : List Bool) → Consistent c input w → w ≡ v)
 
 -- ---- the grammar
 

@@ -1,7 +1,7 @@
 //! Laws of the definitions: each is the contract of a function that does nothing.
 #![tactic(auto)]
 
-ghost use Rattle.cb_laws.specs.Laws.{SolvableByTables, SolvableDecided, SolvableByTablesBelow, ReadyStays, StepDetermined, RunDetermined, SameBeginning, SamePrints, PrintedAreSolvable, PrintedDenote, FormDenotes, DirectivesCount, ClausesFit, TreesFit, OneValuation, ShapeIsOne, LineIsOne, RoomIsOne, RoomOfNone, TokenLines, ReadingIsWritten, ClausesAreOne, QueriesAreOne};
+ghost use Rattle.cb_laws.specs.Laws.{SolvableByTables, SolvableDecided, SolvableByTablesBelow, ReadyStays, StepDetermined, RunDetermined, SameBeginning, SamePrints, PrintedAreSolvable, PrintedDenote, FormDenotes, DirectivesCount, ClausesFit, TreesFit, ShapeIsOne, LineIsOne, RoomIsOne, RoomOfNone, TokenLines, ReadingIsWritten, ClausesAreOne, QueriesAreOne};
 
 /// Boolean equations are solvable exactly where they have a solution in the algebra (Boole).
 pub fn solvable_by_tables()
@@ -50,11 +50,6 @@ pub fn printed_are_solvable()
 /// The parametric form of an answer denotes exactly the solutions.
 pub fn form_denotes()
     ensures { FormDenotes }
-{}
-
-/// A circuit whose gates read only earlier nets has exactly one valuation for each input.
-pub fn one_valuation()
-    ensures { OneValuation }
 {}
 
 /// A name has as many sorts as arguments, whatever the accepted directives of a file declare. So in the clauses of its

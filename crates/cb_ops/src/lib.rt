@@ -1,17 +1,17 @@
 //! Operations on shared decision diagrams, with a memo of answers (Brace, Rudell and Bryant 1990).
 #![tactic(auto)]
 
-ghost use Rattle.std.specs.Prelude.{◌≡◌, ◌≢◌, ◌⊎◌, ℕ, Bool, not, ◌&&◌, ◌||◌, ◌+◌, ◌-◌, ◌*◌, ◌<◌, ◌≤◌, ◌^◌, ◌↔◌, [], ◌∷◌, ◌++◌, List, length, map, take, Some, None, Ok, Err, IfOk, OnOk, OnErr, IfSome, IfNone, IsTrue, Contains, true, false, if◌then◌else◌};
+ghost use Rattle.std.specs.Prelude.{◌≡◌, ◌≢◌, ◌⊎◌, ℕ, Bool, not, ◌&&◌, ◌||◌, ◌+◌, ◌-◌, ◌*◌, ◌<◌, ◌≤◌, ◌^◌, ◌↔◌, [], ◌∷◌, ◌++◌, List, length, map, take, min, Some, None, Ok, Err, IfOk, OnOk, OnErr, IfSome, IfNone, IsTrue, Contains, true, false, if◌then◌else◌};
 ghost use Rattle.cb_model.specs.Bits.{Bits, xor, put};
 ghost use Rattle.indexmap.specs.IndexMap.{get};
 ghost use Rattle.cb_ops.specs.Done.{AllRestricted, node_eq};
-ghost use Rattle.cb_ops.specs.Substitute.{AreNodes, AllSubstituted, SubstituteCause, SubstituteRoom, image_of, substituted};
+ghost use Rattle.cb_ops.specs.Substitute.{AreNodes, AllSubstituted, SubstituteCause, SubstituteRoom, IsJoined, JoinRoom, image_of, substituted};
 ghost use Rattle.cb_ops.specs.Support.{IsWithin, AllWithin, IsGathered};
 ghost use Rattle.cb_dd.specs.Diagram.{Store, IsDiagram, IsCanonical, IsNode, IsChild, IsFull, HasParts, Holds, function_of, level_of, fulls_after, parts_of, triple};
 ghost use Rattle.std.specs.List.Sorted.{IsStrictlyIncreasing};
 ghost use Rattle.cb_ops.specs.Ops.{Grows, StandsFor, IsIte, IsXor, IsCofactor, Room, HasCause, DependsOn, IsFree, IsLeastTrue, IsLeastSide};
 ghost use Rattle.cb_ops.specs.Call.{IsSameCall};
-ghost use Rattle.cb_ops.specs.Waiting.{AreCalled, Asked, Resumed, Waits, IsHalf, bit_of, made_of, fulls_after_turn};
+ghost use Rattle.cb_ops.specs.Waiting.{AreCalled, Asked, Resumed, Waits, IsHalf, IsAnswered, IsValue, bit_of, made_of, fulls_after_turn};
 ghost use Rattle.cb_ops.specs.Pair.{IsSamePair};
 ghost use Rattle.cb_ops.specs.declared.Call.{Call};
 
@@ -24,9 +24,9 @@ use std::marker::Model;
 /// Levels, rising; up to 16 of them take no memory.
 pub type Levels = SmallVec<u32, 16>;
 
-/// How many answers the memo has room for from the start. It is cleared when it holds as many, and in a store of more
-/// than four times as many nodes when it holds a quarter as many as there are nodes, so that an operation on large
-/// diagrams doesn't lose what it has just found.
+/// How many answers the memo holds at most, which begins empty and grows as it fills. It is cleared when it holds as
+/// many, and in a store of more than four times as many nodes when it holds a quarter as many as there are nodes, so
+/// that an operation on large diagrams doesn't lose what it has just found.
 ///
 /// Measured on the multiplier of 11 bits (3.5 million nodes) and nine queens (231,000 nodes), the best of three runs of
 /// each in turn: a quarter of the nodes 7.3 s and 0.42 s, never more than 65,536 answers 7.4 s and 0.46 s, as many as
@@ -48,9 +48,18 @@ struct Pair {
     g: u32,
 }
 
-// A call of `ite`: the choice, what it is where the choice is 1, and what it is where the choice is 0.
+// What a call asks for.
+#[derive(Clone, Copy)]
+enum Operation {
+    Ite,
+    Xor,
+}
+
+// A call: of `ite`, with the choice, what it is where the choice is 1, and what it is where the choice is 0; or of
+// `xor`, with its two nodes and the constant 0.
 #[derive(Clone, Copy)]
 struct Choice {
+    operation: Operation,
     f: Node,
     g: Node,
     h: Node,
@@ -112,12 +121,10 @@ impl Ops {
     {
         let dd = Dd::new(alloc, budget)?;
         let _count = dd.count();
-        let memo = IndexMap::with_capacity(alloc, MEMO_ROOM)?;
-        let pairs = IndexMap::with_capacity(alloc, MEMO_ROOM)?;
         Ok(Ops {
             dd,
-            memo,
-            pairs,
+            memo: IndexMap::new(alloc),
+            pairs: IndexMap::new(alloc),
             bound: 2,
         })
     }
@@ -198,15 +205,17 @@ impl Ops {
             self.dd.cut(to);
             return;
         }
-        self.memo.clear();
-        self.pairs.clear();
+        let alloc = *self.memo.allocator();
+        self.memo = IndexMap::new(alloc);
+        self.pairs = IndexMap::new(alloc);
         self.bound = 2;
         self.dd.cut(to);
     }
 
     /// The node that is g where f is 1, and h where f is 0.
     ///
-    /// Operator `ite` of Brace, Rudell and Bryant (1990). Calls that wait for the answers of their cofactors stand in a list.
+    /// Operator `ite` of Brace, Rudell and Bryant (1990). Calls that wait for the answers of their cofactors stand in a
+    /// list.
     pub fn ite(&mut self, f: Node, g: Node, h: Node) -> Result<Node, Stop>
         requires f { IsNode self.old.triples f.0 }
         requires g { IsNode self.old.triples g.0 }
@@ -221,9 +230,30 @@ impl Ops {
         ensures fulls { self.new.fulls ≡ fulls_after self.old.fulls result }
         ensures diagram { IsDiagram self.new.triples }
     {
+        self.run(Choice {
+            operation: Operation::Ite,
+            f,
+            g,
+            h,
+        })
+    }
+
+    // The answer of a call.
+    fn run(&mut self, call: Choice) -> Result<Node, Stop>
+        requires call { AreCalled self.old.triples call }
+        ensures is_node { IfOk result (λ n. IsNode self.new.triples n.0) }
+        ensures function { IfOk result (λ n. IsValue self.old.triples self.new.triples call n.0) }
+        ensures grows { Grows self.old self.new }
+        ensures room { Room (call.f.0 ∷ call.g.0 ∷ call.h.0 ∷ []) 1 self.old self.new }
+        ensures full { result ≡ Err Stop.Nodes → length self.new.triples ≡ self.new.budget }
+        ensures nodes { result ≡ Err Stop.Nodes → HasCause (call.f.0 ∷ call.g.0 ∷ call.h.0 ∷ []) 1 self.old self.new }
+        ensures unbounded { self.old.budget ≡ 2 ^ 64 - 1 → result ≢ Err Stop.Nodes }
+        ensures fulls { self.new.fulls ≡ fulls_after self.old.fulls result }
+        ensures diagram { IsDiagram self.new.triples }
+    {
         let _count = self.count();
         let mut pending = Vec::new(*self.memo.allocator());
-        let mut turn = Turn::Ask(Choice { f, g, h });
+        let mut turn = Turn::Ask(call);
         loop {
             match turn {
                 Turn::Ask(call) => {
@@ -246,15 +276,16 @@ impl Ops {
         ensures memory { result ≢ Err Stop.Nodes }
     {
         let _count = self.count();
-        let Choice { f, g, h } = call;
-        if let Some(r) = self.known(f, g, h) {
+        if let Some(r) = self.known(call) {
             return Ok(Turn::Answer(r));
         }
-        let level = self.level(f).min(self.level(g)).min(self.level(h));
+        let level = self.least_level(call);
+        let Choice { operation, f, g, h } = call;
         let (f0, f1) = self.cofactors(f, level);
         let (g0, g1) = self.cofactors(g, level);
         let (h0, h1) = self.cofactors(h, level);
         let high = Choice {
+            operation,
             f: f1,
             g: g1,
             h: h1,
@@ -268,6 +299,7 @@ impl Ops {
             return Err(Stop::Memory);
         };
         Ok(Turn::Ask(Choice {
+            operation,
             f: f0,
             g: g0,
             h: h0,
@@ -300,8 +332,7 @@ impl Ops {
             }
             Left::Low(lo) => {
                 let n = self.node(top.level, lo, r)?;
-                let Choice { f, g, h } = top.call;
-                self.note(f, g, h, n);
+                self.keep(top.call, n);
                 Ok(Turn::Answer(n))
             }
         }
@@ -375,33 +406,12 @@ impl Ops {
         ensures fulls { self.new.fulls ≡ fulls_after self.old.fulls result }
         ensures diagram { IsDiagram self.new.triples }
     {
-        let _count = self.count();
-        if f.0 == g.0 {
-            return Ok(Node::ZERO);
-        }
-        if f.0 == 0 {
-            return Ok(g);
-        }
-        if g.0 == 0 {
-            return Ok(f);
-        }
-        if f.0 == 1 {
-            return self.not(g);
-        }
-        if g.0 == 1 {
-            return self.not(f);
-        }
-        if let Some(r) = self.recall_pair(f, g) {
-            return Ok(r);
-        }
-        let level = self.level(f).min(self.level(g));
-        let (f0, f1) = self.cofactors(f, level);
-        let (g0, g1) = self.cofactors(g, level);
-        let lo = self.xor(f0, g0)?;
-        let hi = self.xor(f1, g1)?;
-        let r = self.node(level as u32, lo, hi)?;
-        self.note_pair(f, g, r);
-        Ok(r)
+        self.run(Choice {
+            operation: Operation::Xor,
+            f,
+            g,
+            h: Node::ZERO,
+        })
     }
 
     /// The node with that bit at the level: a cofactor.
@@ -485,7 +495,8 @@ impl Ops {
         Ok(r)
     }
 
-    /// The node with each level of the list replaced by its node, all at once.
+    /// The node with each level of the list replaced by its node, all at once. It is the node itself where all its
+    /// levels are greater than the last one of the list.
     pub fn substitute(&mut self, f: Node, list: &[(u32, Node)]) -> Result<Node, Stop>
         requires f { IsNode self.old.triples f.0 }
         requires nodes { AreNodes self.old.triples list.now }
@@ -503,12 +514,40 @@ impl Ops {
         ensures diagram { IsDiagram self.new.triples }
     {
         let mut done = IndexMap::new(*self.memo.allocator());
-        let n = self.substitute_in(f, list, &mut done)?;
+        let n = self.replace_in(f, list, &mut done)?;
         Ok(n)
     }
 
-    // The same, with the nodes for which it is done.
-    fn substitute_in(
+    /// The same, with a memo that serves several nodes: the nodes for which it is done, each with its answer.
+    pub fn substitute_in(
+        &mut self,
+        f: Node,
+        list: &[(u32, Node)],
+        done: &mut IndexMap<Node, Node>,
+    ) -> Result<Node, Stop>
+        requires f { IsNode self.old.triples f.0 }
+        requires nodes { AreNodes self.old.triples list.now }
+        requires rise { IsStrictlyIncreasing (map (λ p. p.0) list.now) }
+        requires done { AllSubstituted done.old self.old.triples list.now }
+        ensures is_node { IfOk result (λ n. IsNode self.new.triples n.0) }
+        ensures function { IfOk result (λ n. StandsFor self.new.triples n.0 (λ a.
+            function_of self.old.triples f.0
+            (substituted self.old.triples list.now a))) }
+        ensures grows { Grows self.old self.new }
+        ensures room { SubstituteRoom f.0 list.now self.old self.new }
+        ensures full { result ≡ Err Stop.Nodes → length self.new.triples ≡ self.new.budget }
+        ensures nodes { result ≡ Err Stop.Nodes → SubstituteCause f.0 list.now self.old self.new }
+        ensures unbounded { self.old.budget ≡ 2 ^ 64 - 1 → result ≢ Err Stop.Nodes }
+        ensures fulls { self.new.fulls ≡ fulls_after self.old.fulls result }
+        ensures diagram { IsDiagram self.new.triples }
+        ensures done { AllSubstituted done.new self.new.triples list.now }
+    {
+        let n = self.replace_in(f, list, done)?;
+        Ok(n)
+    }
+
+    // The same by recursion over the levels.
+    fn replace_in(
         &mut self,
         f: Node,
         list: &[(u32, Node)],
@@ -534,37 +573,67 @@ impl Ops {
         let Some((at, lo, hi)) = self.parts(f) else {
             return Ok(f);
         };
+        if are_below(list, at) {
+            return Ok(f);
+        }
         if let Some(r) = recall_in(done, f) {
             return Ok(r);
         }
-        let low = self.substitute_in(lo, list, done)?;
-        let high = self.substitute_in(hi, list, done)?;
-        let choice = self.image(at, list)?;
-        let r = self.ite(choice, high, low)?;
+        let low = self.replace_in(lo, list, done)?;
+        let high = self.replace_in(hi, list, done)?;
+        let r = self.compose(at, low, high, list)?;
         remember(done, f, r);
         Ok(r)
     }
 
-    // The node that replaces the level, or else the bit at the level.
-    fn image(&mut self, level: u32, list: &[(u32, Node)]) -> Result<Node, Stop>
+    // The node that is `high` where what replaces the level is 1, and `low` where it is 0.
+    fn compose(
+        &mut self,
+        level: u32,
+        low: Node,
+        high: Node,
+        list: &[(u32, Node)],
+    ) -> Result<Node, Stop>
+        requires low { IsNode self.old.triples low.0 }
+        requires high { IsNode self.old.triples high.0 }
         requires nodes { AreNodes self.old.triples list.now }
         requires rise { IsStrictlyIncreasing (map (λ p. p.0) list.now) }
         ensures is_node { IfOk result (λ n. IsNode self.new.triples n.0) }
-        ensures function { IfOk result (λ n. StandsFor self.new.triples n.0 (λ a.
-            substituted self.old.triples list.now a level)) }
+        ensures function { IfOk result (λ n. IsJoined self.old.triples self.new.triples level low.0 high.0 list.now n.0) }
         ensures grows { Grows self.old self.new }
-        ensures one { length self.new.triples ≤ length self.old.triples + 1 }
+        ensures room { JoinRoom level low.0 high.0 list.now self.old self.new }
         ensures full { result ≡ Err Stop.Nodes → length self.new.triples ≡ self.new.budget }
         ensures unbounded { self.old.budget ≡ 2 ^ 64 - 1 → result ≢ Err Stop.Nodes }
         ensures fulls { self.new.fulls ≡ fulls_after self.old.fulls result }
         ensures diagram { IsDiagram self.new.triples }
     {
         let _count = self.count();
-        if let Some(n) = replacing(list, level) {
-            return Ok(n);
+        let Some(choice) = replacing(list, level) else {
+            return self.join(level, low, high);
+        };
+        self.ite(choice, high, low)
+    }
+
+    // The node that is `high` where the bit at the level is 1, and `low` where it is 0.
+    fn join(&mut self, level: u32, low: Node, high: Node) -> Result<Node, Stop>
+        requires low { IsNode self.old.triples low.0 }
+        requires high { IsNode self.old.triples high.0 }
+        ensures is_node { IfOk result (λ n. IsNode self.new.triples n.0) }
+        ensures function { IfOk result (λ n. IsJoined self.old.triples self.new.triples level low.0 high.0 [] n.0) }
+        ensures grows { Grows self.old self.new }
+        ensures room { JoinRoom level low.0 high.0 [] self.old self.new }
+        ensures full { result ≡ Err Stop.Nodes → length self.new.triples ≡ self.new.budget }
+        ensures unbounded { self.old.budget ≡ 2 ^ 64 - 1 → result ≢ Err Stop.Nodes }
+        ensures fulls { self.new.fulls ≡ fulls_after self.old.fulls result }
+        ensures diagram { IsDiagram self.new.triples }
+    {
+        let _count = self.count();
+        let at = level as u64;
+        if at < self.level(low) && at < self.level(high) {
+            return self.node(level, low, high);
         }
-        let n = self.node(level, Node::ZERO, Node::ONE)?;
-        Ok(n)
+        let own = self.node(level, Node::ZERO, Node::ONE)?;
+        self.ite(own, high, low)
     }
 
     /// Whether the node is 1 at some assignment; if so, `into` becomes the least that makes it so, its i-th bit for
@@ -681,10 +750,65 @@ impl Ops {
         }
     }
 
-    // The answer of a call that needs no work: the choice or the two sides are plain, or it was made before. It isn't
-    // inlined, so that the frames of the recursion stay small.
-    #[inline(never)]
-    fn known(&self, f: Node, g: Node, h: Node) -> Option<Node>
+    // The least level on which the nodes of a call depend.
+    fn least_level(&self, call: Choice) -> u64
+        requires call { AreCalled self.now.triples call }
+        requires inner { (2 ≤ call.f.0) ⊎ (2 ≤ call.g.0) }
+        ensures least { result ≡ min (min (level_of self.now.triples call.f.0) (level_of self.now.triples call.g.0)) (level_of self.now.triples call.h.0) }
+        ensures small { result < 2 ^ 32 }
+    {
+        self.level(call.f)
+            .min(self.level(call.g))
+            .min(self.level(call.h))
+    }
+
+    // The answer of a call that needs no work.
+    fn known(&self, call: Choice) -> Option<Node>
+        requires call { AreCalled self.now.triples call }
+        ensures answered { IfSome result (λ r. IsAnswered self.now.triples call r.0) }
+        ensures inner { IfNone result ((2 ≤ call.f.0) ⊎ (2 ≤ call.g.0)) }
+    {
+        match call.operation {
+            Operation::Ite => self.known_ite(call.f, call.g, call.h),
+            Operation::Xor => self.known_xor(call.f, call.g),
+        }
+    }
+
+    // Keeps the answer of a call, where it fits.
+    fn keep(&mut self, call: Choice, r: Node)
+        requires call { AreCalled self.old.triples call }
+        requires answered { IsAnswered self.old.triples call r.0 }
+        ensures same { self.new ≡ self.old }
+    {
+        match call.operation {
+            Operation::Ite => self.note(call.f, call.g, call.h, r),
+            Operation::Xor => self.note_pair(call.f, call.g, r),
+        }
+    }
+
+    // The answer of a call of `xor` that needs no work: the nodes are the same, one is 0, or it was made before.
+    fn known_xor(&self, f: Node, g: Node) -> Option<Node>
+        requires f { IsNode self.now.triples f.0 }
+        requires g { IsNode self.now.triples g.0 }
+        ensures node { IfSome result (λ r. IsNode self.now.triples r.0) }
+        ensures xor { IfSome result (λ r. IsXor self.now.triples self.now.triples f.0 g.0 r.0) }
+        ensures inner { IfNone result ((2 ≤ f.0) ⊎ (2 ≤ g.0)) }
+    {
+        let _count = self.count();
+        if f.0 == g.0 {
+            return Some(Node::ZERO);
+        }
+        if f.0 == 0 {
+            return Some(g);
+        }
+        if g.0 == 0 {
+            return Some(f);
+        }
+        self.recall_pair(f, g)
+    }
+
+    // The answer of a call of `ite` that needs no work: the choice or the two sides are plain, or it was made before.
+    fn known_ite(&self, f: Node, g: Node, h: Node) -> Option<Node>
         requires f { IsNode self.now.triples f.0 }
         requires g { IsNode self.now.triples g.0 }
         requires h { IsNode self.now.triples h.0 }
@@ -721,14 +845,12 @@ impl Ops {
         }
     }
 
-    // Keeps the answer of a call, where it fits.
-    #[inline(never)]
+    // Keeps the answer of a call of `ite`, where it fits.
     fn note(&mut self, f: Node, g: Node, h: Node, r: Node)
         requires f { IsNode self.old.triples f.0 }
         requires g { IsNode self.old.triples g.0 }
         requires h { IsNode self.old.triples h.0 }
         requires r { IsNode self.old.triples r.0 }
-        requires inner { 2 ≤ f.0 }
         requires ite { IsIte self.old.triples self.old.triples f.0 g.0 h.0 r.0 }
         ensures same { self.new ≡ self.old }
     {
@@ -739,7 +861,7 @@ impl Ops {
         let Ok(answer) = u32::try_from(r.0) else {
             return;
         };
-        let largest = f.0.max(g.0).max(h.0).max(r.0);
+        let largest = f.0.max(g.0).max(h.0).max(r.0).max(1);
         self.bound = self.bound.max(largest + 1);
         let _ = self.memo.insert(call, answer);
     }
@@ -870,6 +992,17 @@ fn replacing(list: &[(u32, Node)], level: u32) -> Option<Node>
         return Some(entry.1);
     }
     None
+}
+
+// Whether all levels of the list are less than this one.
+fn are_below(list: &[(u32, Node)], level: u32) -> bool
+    requires { IsStrictlyIncreasing (map (λ p. p.0) list.now) }
+    ensures { IsTrue result → (l : ℕ) → level ≤ l → image_of list.now l ≡ None }
+{
+    match list.last() {
+        Some(entry) => entry.0 < level,
+        None => true,
+    }
 }
 
 // What was remembered for the node.

@@ -1,9 +1,9 @@
 -- The solution, one level after another.
-use Rattle.std.proofs.Common.{◌≡◌, ◌⊎◌, inl, inr, ℕ, zero, suc, ◌+◌, ◌<◌, ◌≤◌, Bool, true, false, ◌||◌, List, [], ◌∷◌, ◌++◌, length, map, nat_eq, get_or, take, drop, ◌-◌, Option, Some, None, if◌then◌else◌, refl, sym, ap, subst, ◌∙◌, arith, length-append}
+use Rattle.std.proofs.Common.{◌≡◌, ◌⊎◌, inl, inr, ℕ, zero, suc, ◌+◌, ◌<◌, Bool, true, false, ◌||◌, List, [], ◌∷◌, ◌++◌, length, map, nat_eq, get_or, Option, Some, None, if◌then◌else◌, refl, sym, ap, subst, ◌∙◌, arith, length-append}
 use Rattle.std.proofs.lemmas.Bool.{cases_Bool, cases_eq, cases_lt, eq-eqb, eqb-true, ne_eqb, true≢false}
 use Rattle.std.proofs.lemmas.List.{map-append, get_or_append_left}
 use Rattle.std.proofs.lemmas.List.Folds.{list_any-append}
-use Rattle.std.proofs.Math.Seq.{get_or-append_seam, take-length}
+use Rattle.std.proofs.Math.Seq.{get_or-append_seam}
 use Rattle.std.proofs.Math.Path.{fun_ext}
 use Rattle.std.specs.List.{list_any}
 use Rattle.std.specs.List.Sorted.{IsStrictlyIncreasing}
@@ -12,16 +12,16 @@ use Rattle.cb_model.specs.Bits.{Bits, put, xor}
 use Rattle.cb_dd.specs.declared.Triple.{Triple}
 use Rattle.cb_dd.specs.declared.Node.{Node}
 use Rattle.cb_dd.specs.Diagram.{Store, IsDiagram, IsNode, function_of}
-use Rattle.cb_dd.proofs.Diagrams.{function_of-zero, function_of-one, kind_of, bottom, top, inner, node-within, function_of-lo, function_of-hi}
-use Rattle.cb_ops.specs.Ops.{Grows, StandsFor, Room, DependsOn, Agree}
+use Rattle.cb_dd.proofs.Diagrams.{function_of-one, kind_of, bottom, top, inner, node-within, function_of-lo, function_of-hi}
+use Rattle.cb_ops.specs.Ops.{Grows, StandsFor, DependsOn, Agree}
 use Rattle.cb_ops.specs.Support.{IsListed}
 use Rattle.cb_ops.specs.Substitute.{Images, AreNodes, substituted, image_of}
-use Rattle.cb_ops.proofs.Ite.{grown-function, grown-depends, Grows-then, put-same, put-other}
+use Rattle.cb_ops.proofs.Ite.{grown-function, Grows-then, put-same, put-other}
 use Rattle.cb_ops.proofs.Gather.{agree-at}
 use Rattle.cb_ops.proofs.Substitute.{image-node, grown-nodes}
 use Rattle.cb_boole.specs.Elimination.{Function, both, mended, rest, solved, DependsOnly}
-use Rattle.cb_boole.proofs.Only.{both_only, solved_alike}
-use Rattle.cb_solution.specs.Solution.{IsFalling, IsImage, IsSolution, HasRest, ImagesWithin, ImageRoom, SolutionRoom}
+use Rattle.cb_boole.proofs.Only.{solved_alike}
+use Rattle.cb_solution.specs.Solution.{IsFalling, IsImage, IsSolution, ImagesWithin}
 
 -- ---- lists of levels
 
@@ -46,7 +46,7 @@ listed-cases l k ls h = elim (cases_Bool (nat_eq k l)) [
   | inr other ↦ inr (sym (ap (λ b. b || list_any (nat_eq k) ls) other) ∙ h)
 ]
 
-listed-at : (xs : List ℕ) (k : ℕ) → k < length xs → IsListed xs (get_or xs k 0)
+pub listed-at : (xs : List ℕ) (k : ℕ) → k < length xs → IsListed xs (get_or xs k 0)
 listed-at [] k h = absurd (omega arith)
 listed-at (x ∷ xs) zero h = listed-here x xs
 listed-at (x ∷ xs) (suc k) h = listed-there x (get_or xs k 0) xs (listed-at xs k (omega arith))
@@ -108,9 +108,8 @@ module _ (ts : List Triple) (is : IsDiagram ts) where
         ]
   ]
 
-  pub rest-somewhere : (f : ℕ) → IsNode ts f → (f ≡ 0 → ⊥) → HasRest ts f []
-  unfolding rest
-  rest-somewhere f w some = let r = somewhere (suc f) f (omega arith) w some in record { at = r.0; left = r.1 }
+  pub somewhere-one : (f : ℕ) → IsNode ts f → (f ≡ 0 → ⊥) → (a : Bits) × (function_of ts f a ≡ true)
+  somewhere-one f w some = somewhere (suc f) f (omega arith) w some
 
 -- ---- the images at an assignment
 
@@ -123,18 +122,6 @@ at-some ts list a l m e = ap (λ o. option_map_or (λ n. function_of ts n.0 a) o
 
 at-none : (ts : List Triple) (list : Images) (a : Bits) (l : ℕ) → image_of list l ≡ None → substituted ts list a l ≡ a l
 at-none ts list a l e = ap (λ o. option_map_or (λ n. function_of ts n.0 a) o (a l)) e
-
--- ---- no level
-
-pub solution-none : (ts : List Triple) (f : ℕ) → f ≡ 0 → IsSolution ts ts f [] []
-unfolding rest solved
-solution-none ts f z = record {
-  rise = λ k h. absurd (omega arith);
-  within = λ l h. h;
-  nodes = tt;
-  at = λ p. refl;
-  none_left = λ p. ap (λ n. function_of ts n p) z ∙ function_of-zero ts p;
-}
 
 -- ---- one level more
 
@@ -173,43 +160,7 @@ module _ (s t u v : Store) (st : Grows s t) (tu : Grows t u) (uv : Grows u v) (f
   left-function : function_of t.triples left ≡ both level (function_of s.triples f)
   left-function = fun_ext (λ p. is_left.at p)
 
-  pub rest-more : HasRest t.triples left lower → HasRest s.triples f (level ∷ lower)
-  unfolding rest
-  rest-more r = record { at = r.at; left = ap (λ g. rest lower g r.at) (sym left-function) ∙ r.left }
-
-  left-depends : (ls : List ℕ) → DependsOn s.triples f ls → DependsOn t.triples left ls
-  left-depends ls d = only-into t.triples left ls (both level (function_of s.triples f)) is_left (both_only (IsListed ls) level (function_of s.triples f) (only-from s.triples f ls d))
-
-  -- the nodes of the first level and of those that follow
-  pub room-second : Room (f ∷ []) 3 s t → SolutionRoom left lower t u → SolutionRoom f (level ∷ lower) s u
-  room-second first second = record {
-    most = λ ls d all.
-        let m = first.most ls (d, tt) in
-        let n = second.most ls (left-depends ls d) (λ l there. all l (listed-there level l lower there)) in
-        omega arith;
-  }
-
   module _ (falls : IsFalling (level ∷ lower)) (images : Images) (found : IsSolution t.triples u.triples left lower images) where
-    images-within : (ls : List ℕ) → DependsOn s.triples f ls → ((l : ℕ) → IsListed (level ∷ lower) l → IsListed ls l) → ImagesWithin u.triples images ls
-    images-within ls d all = record {
-      each = λ l m e. only-into u.triples m.0 ls (λ p. solved lower (function_of t.triples left) p l)
-          (record { at = λ p. sym (at-some u.triples images p l m e) ∙ ap (λ (q : Bits). q l) (found.at p) })
-          (λ p q h. solved_alike (IsListed ls) lower (function_of t.triples left) (only-from t.triples left ls (left-depends ls d)) p q h l
-          (all l (listed-there level l lower (found.within l (image-listed images l m e)))));
-    }
-
-    pub room-third : Room (f ∷ []) 3 s t → SolutionRoom left lower t u → ImageRoom f level images u v → SolutionRoom f (level ∷ lower) s v
-    room-third first second third = record {
-      most = λ ls d all.
-          let m = first.most ls (d, tt) in
-          let n = second.most ls (left-depends ls d) (λ l there. all l (listed-there level l lower there)) in
-          let o = third.most ls (grown-depends s u (Grows-then s t u st tu) f ls wf d) (all level (listed-here level lower)) (images-within ls d all) in
-          omega arith;
-    }
-
-    pub nodes-rise : IsStrictlyIncreasing (map (λ i. i.0) images)
-    nodes-rise = found.rise
-
     -- the level has no image yet
     fresh : image_of images level ≡ None
     fresh = elim (cases-image (image_of images level)) [
@@ -260,14 +211,6 @@ module _ (s t u v : Store) (st : Grows s t) (tu : Grows t u) (uv : Grows u v) (f
             | inr none ↦ absurd (true≢false (sym none))
           ]
 
-pub room-first : (s t : Store) (f level : ℕ) (lower : List ℕ) → Room (f ∷ []) 3 s t → SolutionRoom f (level ∷ lower) s t
-room-first s t f level lower first = record {
-  most = λ ls d all. let m = first.most ls (d, tt) in omega arith;
-}
-
-pub room-none : (s : Store) (f : ℕ) → SolutionRoom f [] s s
-room-none s f = record { most = λ ls d all. omega arith }
-
 -- the images depend on no other levels than the equation
 pub solution-within : (old new : List Triple) (f : ℕ) (levels : List ℕ) (images : Images) → IsSolution old new f levels images → (ls : List ℕ) → DependsOn old f ls → ((l : ℕ) → IsListed levels l → IsListed ls l) → ImagesWithin new images ls
 solution-within old new f levels images sol ls d all = record {
@@ -275,18 +218,3 @@ solution-within old new f levels images sol ls d all = record {
       (record { at = λ p. sym (at-some new images p l m e) ∙ ap (λ (q : Bits). q l) (sol.at p) })
       (λ p q h. solved_alike (IsListed ls) levels (function_of old f) (only-from old f ls d) p q h l (all l (sol.within l (image-listed images l m e))));
 }
-
--- ---- lists of levels as the code takes them apart
-
-pub whole : (ls : List ℕ) → 1 ≤ length ls → get_or ls 0 0 ∷ take (length ls - 1) (drop 1 ls) ≡ ls
-whole [] h = absurd (omega arith)
-whole (l ∷ ls) h =
-    let n : length (l ∷ ls) - 1 ≡ length ls = omega arith in
-    ap (λ k. l ∷ take k ls) n ∙ ap (λ xs. l ∷ xs) (take-length ls)
-
-pub no-levels : (ls : List ℕ) → length ls < 1 → [] ≡ ls
-no-levels [] h = refl
-no-levels (l ∷ ls) h = absurd (omega arith)
-
-pub falls-whole : (ls : List ℕ) → 1 ≤ length ls → IsFalling ls → IsFalling (get_or ls 0 0 ∷ take (length ls - 1) (drop 1 ls))
-falls-whole ls h f = subst IsFalling (sym (whole ls h)) f

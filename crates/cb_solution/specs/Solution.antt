@@ -1,12 +1,12 @@
 -- What elimination on nodes promises.
-use Rattle.std.specs.Prelude.{◌≡◌, ℕ, ◌+◌, ◌-◌, ◌*◌, ◌<◌, ◌≤◌, ◌^◌, min, true, false, List, [], ◌∷◌, length, map, Some, Result, Ok, Err}
+use Rattle.std.specs.Prelude.{◌≡◌, ℕ, ◌+◌, ◌-◌, ◌*◌, ◌<◌, ◌≤◌, ◌^◌, min, true, false, List, [], ◌∷◌, length, map, take, slice_index_or, Some, Result, Ok, Err}
 use Rattle.std.specs.List.Sorted.{IsStrictlyIncreasing}
 use Rattle.cb_model.specs.Bits.{Bits, xor}
 use Rattle.cb_dd.specs.declared.Triple.{Triple}
 use Rattle.cb_dd.specs.declared.Node.{Node}
 use Rattle.cb_dd.specs.declared.Stop.{Stop}
 use Rattle.cb_dd.specs.declared.Stop.TheVariants.{Nodes, Memory}
-use Rattle.cb_dd.specs.Diagram.{Store, function_of}
+use Rattle.cb_dd.specs.Diagram.{Store, IsNode, function_of}
 use Rattle.cb_ops.specs.Ops.{DependsOn, StandsFor}
 use Rattle.cb_ops.specs.Support.{IsListed}
 use Rattle.cb_ops.specs.Substitute.{Images, AreNodes, substituted, image_of}
@@ -34,6 +34,16 @@ pub record HasRest (ts : List Triple) (f : ℕ) (levels : List ℕ) : Type 0 whe
   pub at : Bits
   pub left : rest levels (function_of ts f) at ≡ true
 
+-- Elimination of the first levels, one after another: node k is what is left of f when the first k are eliminated, and the
+-- last node when as many are as the list has nodes; where the last isn't 0 all levels are.
+pub record AreRests (ts : List Triple) (f : ℕ) (levels : List ℕ) (ns : List Node) (last : ℕ) : Type 0 where
+  pub few : length ns ≤ length levels
+  pub all : (last ≡ 0 → ⊥) → length ns ≡ length levels
+  pub nodes : (k : ℕ) (d : Node) → k < length ns → IsNode ts (slice_index_or ns k d).0
+  pub at : (k : ℕ) (d : Node) → k < length ns → StandsFor ts (slice_index_or ns k d).0 (rest (take k levels) (function_of ts f))
+  pub last_node : IsNode ts last
+  pub end : StandsFor ts last (rest (take (length ns) levels) (function_of ts f))
+
 -- each image depends on the levels of the list alone
 pub record ImagesWithin (ts : List Triple) (images : Images) (ls : List ℕ) : Type 0 where
   pub each : (l : ℕ) (m : Node) → image_of images l ≡ Some m → DependsOn ts m.0 ls
@@ -47,6 +57,15 @@ pub record ImageRoom (f level : ℕ) (images : Images) (old new : Store) : Type 
 pub record SolutionRoom (f : ℕ) (levels : List ℕ) (old new : Store) : Type 0 where
   pub most : (ls : List ℕ) → DependsOn old.triples f ls → ((l : ℕ) → IsListed levels l → IsListed ls l) →
       length new.triples ≤ length old.triples + length levels * (5 * 2 ^ length ls + 2 ^ length ls * 2 ^ length ls)
+
+-- nodes that eliminating the levels adds at most, where f depends on the levels of the list alone
+pub record RestsRoom (f : ℕ) (levels : List ℕ) (old new : Store) : Type 0 where
+  pub most : (ls : List ℕ) → DependsOn old.triples f ls → length new.triples ≤ length old.triples + length levels * (3 * 2 ^ length ls)
+
+-- nodes that the images add at most, where f depends on the levels of the list alone, and those eliminated are among them
+pub record ImagesRoom (f : ℕ) (levels : List ℕ) (old new : Store) : Type 0 where
+  pub most : (ls : List ℕ) → DependsOn old.triples f ls → ((l : ℕ) → IsListed levels l → IsListed ls l) →
+      length new.triples ≤ length old.triples + length levels * (2 * 2 ^ length ls + 2 ^ length ls * 2 ^ length ls)
 
 -- the number of refusals for nodes after an answer
 abbrev pub has_refused : {A : Type 0} → ℕ → Result A Stop → ℕ

@@ -7,7 +7,7 @@ ghost use Rattle.cb_dd.specs.Diagram.{Store, IsDiagram, IsNode, function_of, ful
 ghost use Rattle.cb_ops.specs.Ops.{Grows, StandsFor, Room};
 ghost use Rattle.cb_ops.specs.Substitute.{AreNodes};
 ghost use Rattle.cb_boole.specs.Elimination.{both, rest};
-ghost use Rattle.cb_solution.specs.Solution.{IsFalling, IsImage, IsSolution, HasRest, ImageRoom, SolutionRoom, has_refused};
+ghost use Rattle.cb_solution.specs.Solution.{AreRests, IsFalling, IsImage, IsSolution, HasRest, ImageRoom, ImagesRoom, RestsRoom, SolutionRoom, has_refused};
 
 use cb_dd::{Node, Stop};
 use cb_ops::Ops;
@@ -47,9 +47,57 @@ fn image(ops: &mut Ops, f: Node, level: u32, images: &[(u32, Node)]) -> Result<N
     Ok(n)
 }
 
+// What is left of f as the levels are eliminated one after another, until nothing is or no level follows: node k before
+// level k is eliminated, and what is left in the end.
+fn rests(alloc: Global, ops: &mut Ops, f: Node, levels: &[u32]) -> Result<(Vec<Node>, Node), Stop>
+    requires f { IsNode ops.old.triples f.0 }
+    ensures rests { IfOk result (λ r. AreRests ops.new.triples f.0 levels.now r.0.items r.1.0) }
+    ensures grows { Grows ops.old ops.new }
+    ensures room { RestsRoom f.0 levels.now ops.old ops.new }
+    ensures full { result ≡ Err Stop.Nodes → length ops.new.triples ≡ ops.new.budget }
+    ensures fulls { ops.new.fulls ≡ has_refused ops.old.fulls result }
+{
+    let mut nodes = Vec::new(alloc);
+    let mut left = f;
+    for level in levels {
+        if left.0 == 0 {
+            return Ok((nodes, left));
+        }
+        nodes.push(left).map_err(|_| Stop::Memory)?;
+        left = both_sides(ops, left, *level)?;
+    }
+    Ok((nodes, left))
+}
+
+// The images of the levels that were eliminated, the least level first, where nothing is left in the end.
+fn images(
+    alloc: Global,
+    ops: &mut Ops,
+    f: Node,
+    levels: &[u32],
+    nodes: &[Node],
+) -> Result<Vec<(u32, Node)>, Stop>
+    requires f { IsNode ops.old.triples f.0 }
+    requires rests { AreRests ops.old.triples f.0 levels.now nodes.now 0 }
+    requires fall { IsFalling levels.now }
+    ensures solved { IfOk result (λ images. IsSolution ops.old.triples ops.new.triples f.0 levels.now images.items) }
+    ensures grows { Grows ops.old ops.new }
+    ensures room { ImagesRoom f.0 levels.now ops.old ops.new }
+    ensures full { result ≡ Err Stop.Nodes → length ops.new.triples ≡ ops.new.budget }
+    ensures fulls { ops.new.fulls ≡ has_refused ops.old.fulls result }
+{
+    let mut images = Vec::new(alloc);
+    for k in (0..nodes.len()).rev() {
+        let level = levels[k];
+        let node = image(ops, nodes[k], level, &images)?;
+        images.push((level, node)).map_err(|_| Stop::Memory)?;
+    }
+    Ok(images)
+}
+
 /// The solution of f = 0 for these levels, which fall: for each its image, a node over the other levels of f and the
-/// levels' own bits as parameters, the least level first; to be put in all at once. `None` where elimination of the
-/// levels leaves something.
+/// levels' own bits as parameters, the least level first; to be put in all at once. A level that keeps its own bit may
+/// have none. `None` where elimination of the levels leaves something.
 pub fn solution(
     alloc: Global,
     ops: &mut Ops,
@@ -65,63 +113,11 @@ pub fn solution(
     ensures full { result ≡ Err Stop.Nodes → length ops.new.triples ≡ ops.new.budget }
     ensures fulls { ops.new.fulls ≡ has_refused ops.old.fulls result }
 {
-    let _count = ops.count();
-    let [level, lower @ ..] = levels else {
-        if f.0 == 0 {
-            return Ok(Some(Vec::new(alloc)));
-        }
+    let (nodes, left) = rests(alloc, ops, f, levels)?;
+    if left.0 != 0 {
+        let _count = ops.count();
         return Ok(None);
-    };
-    let left = both_sides(ops, f, *level)?;
-    let found = solution(alloc, ops, left, lower)?;
-    let Some(mut images) = found else {
-        return Ok(None);
-    };
-    let node = image(ops, f, *level, &images)?;
-    images.push((*level, node)).map_err(|_| Stop::Memory)?;
+    }
+    let images = images(alloc, ops, f, levels, &nodes)?;
     Ok(Some(images))
-}
-
-#[cfg(test)]
-mod tests {
-    use super::*;
-    use std::test::Fail;
-
-    // A store with the bits at levels 0 and 1.
-    fn two_bits(alloc: Global) -> Result<(Ops, Node, Node), Fail>
-        ensures { IfOk result (λ p. IsNode p.0.triples p.1.0 × IsNode p.0.triples p.2.0) }
-    {
-        let mut ops = Ops::new(alloc, 100)?;
-        let a = ops.node(0, Node::ZERO, Node::ONE)?;
-        let x = ops.node(1, Node::ZERO, Node::ONE)?;
-        Ok((ops, a, x))
-    }
-
-    // The equation `x * a = a` leaves x free where a is 0, and has 1 for it where a is 1.
-    #[test]
-    fn solves_for_one_level(rt: HostRuntime) -> Result<(), Fail> {
-        let (mut ops, a, x) = two_bits(rt.alloc())?;
-        let other = ops.not(x)?;
-        assert!(rt; a.0 < ops.count() + 2);
-        let equation = ops.and(a, other)?;
-        let found = solution(rt.alloc(), &mut ops, equation, &[1])?;
-        let images = found.expect(&rt, "a solution");
-        assert_eq!(rt; images.len(), 1);
-        let (level, image) = images[0];
-        assert_eq!(rt; level, 1);
-        assert!(rt; image.0 < ops.count() + 2);
-        assert_eq!(rt; ops.parts(image), Some((0, x, Node::ONE)));
-        Ok(())
-    }
-
-    // The equation `x * a = 1` has no solution where a is 0.
-    #[test]
-    fn has_no_solution(rt: HostRuntime) -> Result<(), Fail> {
-        let (mut ops, a, x) = two_bits(rt.alloc())?;
-        let both = ops.and(a, x)?;
-        let equation = ops.not(both)?;
-        let found = solution(rt.alloc(), &mut ops, equation, &[1])?;
-        assert!(rt; found.is_none());
-        Ok(())
-    }
 }

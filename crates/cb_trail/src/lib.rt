@@ -1,10 +1,14 @@
-//! An undo list: what was pushed last is taken back first (the trail of Warren's abstract machine, 1983).
+//! An undo list: what was pushed last is taken back first (the trail of Warren's abstract machine, 1983); and which slots
+//! may depend on which level, taken back with it.
 #![tactic(auto)]
 
 ghost use Rattle.std.specs.Prelude.{◌≡◌, ◌<◌, ◌≤◌, ◌↔◌, [], ◌∷◌, ◌++◌, length, IsSome, IfSome, IfNone, OnOk, OnErr, IfErr, option_copied, slice_get};
 
+mod uses;
+
 use std::alloc::{AllocError, Global};
 use std::marker::Model;
+pub use uses::{Use, Uses};
 
 /// The changes that were made, in the order in which they were made.
 #[derive(Drop)]
@@ -66,24 +70,5 @@ impl<T> Trail<T> {
             return None;
         }
         self.items.pop()
-    }
-}
-
-#[cfg(test)]
-mod tests {
-    use super::*;
-    use std::test::Fail;
-
-    #[test]
-    fn takes_back_the_newest_first(rt: HostRuntime) -> Result<(), Fail> {
-        let mut trail: Trail<u32> = Trail::new(rt.alloc());
-        let start = trail.mark();
-        assert_eq!(rt; trail.push(7).is_ok(), true);
-        assert_eq!(rt; trail.push(8).is_ok(), true);
-        assert_eq!(rt; trail.get(1).copied(), Some(8));
-        assert_eq!(rt; trail.undo_next(start), Some(8));
-        assert_eq!(rt; trail.undo_next(start), Some(7));
-        assert_eq!(rt; trail.undo_next(start), None);
-        Ok(())
     }
 }

@@ -6,7 +6,7 @@ use Rattle.cb_elim.specs.declared.Change.{Change}
 use Rattle.cb_elim.specs.Store.{Seen, OnlyNodes}
 use Rattle.cb_elim.proofs.Inside.{seen}
 use Rattle.cb_elim.proofs.Views.{only-nodes}
-use Rattle.cb_elim.proofs.Equations.{solve-none, solve-same, solve-solved, solve-store, solve-values}
+use Rattle.cb_elim.proofs.Equations.{solve-none, solve-same, solve-solution, solve-solved, solve-store, solve-values}
 use Rattle.cb_elim.proofs.Store.solve.Goals as goal
 
 pub returns-in_err-found-clause-only_nodes : goal.returns-in_err-found-clause-only_nodes
@@ -27,6 +27,11 @@ returns-in_err-remember-clause-only_nodes c = λ no.
 pub returns-clause-solved : goal.returns-clause-solved
 returns-clause-solved c = λ yes.
     solve-solved c.args.self.now (seen c.self.inside) c.self.view_is c.requires.store c.args.f.0 c.args.g.0 c.requires.f c.requires.g c.in-Some.values.items c.remember.new.trail c.most_general.new.ops
+    (rw c.deref.ensures.value at (rw c.in-Some.is at c.in_ok-found.ensures.found))
+
+pub returns-clause-solution : goal.returns-clause-solution
+returns-clause-solution c = λ yes.
+    solve-solution c.args.self.now (seen c.self.inside) c.self.view_is c.requires.store c.args.f.0 c.args.g.0 c.requires.f c.requires.g c.in-Some.values.items c.remember.new.trail c.most_general.new.ops
     (rw c.deref.ensures.value at (rw c.in-Some.is at c.in_ok-found.ensures.found))
 
 pub returns-clause-values : goal.returns-clause-values

@@ -4,11 +4,14 @@ use Rattle.cb_dd.specs.declared.Stop.{Stop}
 use Rattle.cb_solution.specs.Solution.{has_refused}
 use Rattle.cb_elim.proofs.Rooms.{room-before, room-none, unify-cause}
 use Rattle.cb_elim.proofs.Inside.{seen}
-use Rattle.cb_elim.proofs.Equations.{same-slots, same-values, same-solved, keeps-values, keeps-before, store-before, cut-before, not-true, stop-not-true}
+use Rattle.cb_elim.proofs.Equations.{same-slots, same-values, same-solution, same-solved, keeps-values, keeps-before, store-before, cut-before, not-true, stop-not-true}
 use Rattle.cb_elim.proofs.Store.unify.Goals as goal
 
 pub returns-then-f-g-clause-solved : goal.returns-then-f-g-clause-solved
 returns-then-f-g-clause-solved c = λ yes. same-solved c.args.self.now c.args.f.0 c.args.g.0 c.if-f-g.true
+
+pub returns-then-f-g-clause-solution : goal.returns-then-f-g-clause-solution
+returns-then-f-g-clause-solution c = λ yes. same-solution c.args.self.now c.args.f.0 c.args.g.0 c.if-f-g.true
 
 pub returns-in-Ok-true-clause-moments : goal.returns-in-Ok-true-clause-moments
 returns-in-Ok-true-clause-moments c = keeps-values c.args.self.now c.solve.new.self (c.in-Ok-true.ensures.values (ap (λ (b : Bool). Ok b) c.in-Ok-true.field-0-test))

@@ -1,6 +1,6 @@
 use Rattle.cb_ops.proofs.Ite.{ite-one, ite-zero, ite-plain}
 use Rattle.cb_ops.proofs.Same.{same-then, same-answer}
-use Rattle.cb_ops.proofs.Ops.known.Goals as goal
+use Rattle.cb_ops.proofs.Ops.known_ite.Goals as goal
 
 pub returns-then-f-eq1-clause-ite : goal.returns-then-f-eq1-clause-ite
 returns-then-f-eq1-clause-ite c = ite-one c.args.self.now.triples c.args.f.0 c.args.g.0 c.args.h.0 c.if-f-eq1.true
