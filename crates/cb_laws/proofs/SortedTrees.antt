@@ -253,16 +253,16 @@ fits_of_all t [] = refl
 fits_of_all t (x ∷ xs) = ap (λ l. arguments_fit t x ∷ l) (fits_of_all t xs)
 
 module _ (t : Sorts) where
-  args-leaf : (e : Expr) → arguments_fit t (tree.Leaf e) ≡ true
+  pub args-leaf : (e : Expr) → arguments_fit t (tree.Leaf e) ≡ true
   args-leaf e = ap (arguments_fit t) (sym (tree.rolls-Leaf e)) ∙ ap (λ (r : Sort × Bool). r.1) (fold-roll-Tree (Sort × Bool) (arguments_fit_step t) (Tree-F.Leaf e))
 
-  args-bus : (es : List Expr) (l : Option ℕ) → arguments_fit t (tree.Bus es l) ≡ true
+  pub args-bus : (es : List Expr) (l : Option ℕ) → arguments_fit t (tree.Bus es l) ≡ true
   args-bus es l = ap (arguments_fit t) (sym (tree.rolls-Bus es l)) ∙ ap (λ (r : Sort × Bool). r.1) (fold-roll-Tree (Sort × Bool) (arguments_fit_step t) (Tree-F.Bus es l))
 
-  args-term : (n : ℕ) → arguments_fit t (tree.Var n) ≡ true
+  pub args-term : (n : ℕ) → arguments_fit t (tree.Var n) ≡ true
   args-term n = ap (arguments_fit t) (sym (tree.rolls-Var n)) ∙ ap (λ (r : Sort × Bool). r.1) (fold-roll-Tree (Sort × Bool) (arguments_fit_step t) (Tree-F.Var n))
 
-  args-int : (z : ℤ) → arguments_fit t (tree.Int z) ≡ true
+  pub args-int : (z : ℤ) → arguments_fit t (tree.Int z) ≡ true
   args-int z = ap (arguments_fit t) (sym (tree.rolls-Int z)) ∙ ap (λ (r : Sort × Bool). r.1) (fold-roll-Tree (Sort × Bool) (arguments_fit_step t) (Tree-F.Int z))
 
   pub args-node : (n : ℕ) (xs : List Tree) → arguments_fit t (tree.Node n xs) ≡ (same_sorts (get_or t n []) (map tree_sort xs) && all_of (map (arguments_fit t) xs))

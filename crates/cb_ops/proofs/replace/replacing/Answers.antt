@@ -2,7 +2,7 @@ use Rattle.std.proofs.Common.{◌≡◌, ◌≤◌, ltb, length, rules, ◌∙�
 use Rattle.std.proofs.lemmas.List.Sorted.{IsPartitionPoint-from_clause, IsPartitionedBy-ltb}
 use Rattle.std.specs.List.Sorted.{IsPartitionPoint}
 use Rattle.cb_ops.proofs.Images.{rising-keys, found-at, past-end, passed-over}
-use Rattle.cb_ops.proofs.replacing.Goals as goal
+use Rattle.cb_ops.proofs.replace.replacing.Goals as goal
 
 pub returns-in_err-entry : goal.returns-in_err-entry
 returns-in_err-entry c =
