@@ -92,7 +92,7 @@ pub image-bit : (s t : Store) (list : Images) (l r : ℕ) → image_of list l �
 image-bit s t list l r e made = record { at = λ a. made a ∙ literal-is s.triples (a l) a ∙ sym (at-none s.triples list a l e) }
 
 -- a node with its levels replaced depends on the second levels alone
-replaced-depends : (s t : Store) (list : Images) (n r : ℕ) (first second : List ℕ) → Spreads s.triples n list first second → StandsFor t.triples r (λ a. function_of s.triples n (substituted s.triples list a)) → DependsOn t.triples r second
+pub replaced-depends : (s t : Store) (list : Images) (n r : ℕ) (first second : List ℕ) → Spreads s.triples n list first second → StandsFor t.triples r (λ a. function_of s.triples n (substituted s.triples list a)) → DependsOn t.triples r second
 replaced-depends s t list n r first second sp is = record {
   agrees = λ a b h.
       is.at a
@@ -103,14 +103,14 @@ replaced-depends s t list n r first second sp is = record {
       ∙ sym (is.at b);
 }
 
-spreads-grown : (s t : Store) → Grows s t → (list : Images) (n : ℕ) (first second : List ℕ) → IsNode s.triples n → AreNodes s.triples list → Spreads s.triples n list first second → Spreads t.triples n list first second
+pub spreads-grown : (s t : Store) → Grows s t → (list : Images) (n : ℕ) (first second : List ℕ) → IsNode s.triples n → AreNodes s.triples list → Spreads s.triples n list first second → Spreads t.triples n list first second
 spreads-grown s t g list n first second w ws sp = record {
   depends = grown-depends s t g n first w sp.depends;
   covers = sp.covers;
   images = λ l m e. grown-depends s t g m.0 second (image-node s.triples list l m ws e) (sp.images l m e);
 }
 
-spreads-side : (ts : List Triple) (list : Images) (f at : ℕ) (bit : Bool) (r : ℕ) (first second : List ℕ) → IsCofactor ts f at bit r → Spreads ts f list first second → Spreads ts r list (without at first) second
+pub spreads-side : (ts : List Triple) (list : Images) (f at : ℕ) (bit : Bool) (r : ℕ) (first second : List ℕ) → IsCofactor ts f at bit r → Spreads ts f list first second → Spreads ts r list (without at first) second
 spreads-side ts list f at bit r first second c sp = record {
   depends = cofactor-depends ts f at bit r first c sp.depends;
   covers = λ l there e. sp.covers l (without-listed at first l there) e;
@@ -124,71 +124,6 @@ substitute-none n list s = record {
       let m : 2 ^ length second * 1 ≤ 2 ^ length second * 2 ^ length first = mul-le-mul_left (2 ^ length second) p in
       omega arith;
 }
-
-module _ (s t u v : Store) (st : Grows s t) (tu : Grows t u) (list : Images) (ws : AreNodes s.triples list) (f at lo hi low high : ℕ) (wf : IsNode s.triples f) (parts : HasParts s.triples f at lo hi) where
-  su : Grows s u
-  su = Grows-then s t u st tu
-
-  side : (n : ℕ) → IsNode s.triples n → (a : Bits) → function_of t.triples n (substituted t.triples list a) ≡ function_of s.triples n (substituted s.triples list a)
-  side n w a = grown-function s t st n w (substituted t.triples list a) ∙ ap (function_of s.triples n) (substituted-grown s t st list ws a)
-
-  module _ (wl : IsNode t.triples low) (wh : IsNode u.triples high) (is_low : StandsFor t.triples low (λ a. function_of s.triples lo (substituted s.triples list a))) (is_high : StandsFor u.triples high (λ a. function_of t.triples hi (substituted t.triples list a))) where
-    pub substitute-step : (r : ℕ) → IsJoined u.triples v.triples at low high list r → StandsFor v.triples r (λ a. function_of s.triples f (substituted s.triples list a))
-    substitute-step r is = record {
-      at = λ a.
-          is.at a
-          ∙ choose-all _ _ _ _ _ _
-          (ap (λ (b : Bits). b at) (substituted-grown s u su list ws a))
-          (is_high.at a ∙ side hi parts.hi_node a)
-          (grown-function t u tu low wl a ∙ is_low.at a)
-          ∙ sym (parts.function (substituted s.triples list a));
-    }
-
-    module _ (is : IsDiagram s.triples) (first_room : SubstituteRoom lo list s t) (second_room : SubstituteRoom hi list t u) where
-      pub substitute-room : JoinRoom at low high list u v → SubstituteRoom f list s v
-      substitute-room last = record {
-        most = λ first second sp.
-            let there : IsListed first at = ap (λ k. list_any (nat_eq k) first) (sym parts.at) ∙ listed s.triples is f first wf (let p = parts.at in let m = parts.small in omega arith) sp.depends in
-            let low_side : IsCofactor s.triples f at false lo = record { node = parts.lo_node; above = parts.lo_below; function = parts.lo_function } in
-            let high_side : IsCofactor s.triples f at true hi = record { node = parts.hi_node; above = parts.hi_below; function = parts.hi_function } in
-            let sl = spreads-side s.triples list f at false lo first second low_side sp in
-            let sh = spreads-grown s t st list hi (without at first) second parts.hi_node ws (spreads-side s.triples list f at true hi first second high_side sp) in
-            let m = first_room.most (without at first) second sl in
-            let n = second_room.most (without at first) second sh in
-            let o = last.most second (λ e. sp.covers at there e) (λ m e. grown-depends s u su m.0 second (image-node s.triples list at m ws e) (sp.images at m e))
-            (grown-depends t u tu low second wl (replaced-depends s t list lo low (without at first) second sl is_low))
-            (replaced-depends t u list hi high (without at first) second sh is_high) in
-            let d : 2 ^ length second * (2 ^ length (without at first) + 2 ^ length (without at first)) ≤ 2 ^ length second * 2 ^ length first = mul-le-mul_left (2 ^ length second) (twice at first there) in
-            omega arith;
-      }
-
-  module _ (is : IsDiagram s.triples) (first_room : SubstituteRoom lo list s t) where
-    sides : (first second : List ℕ) → Spreads s.triples f list first second → IsListed first at × Spreads s.triples lo list (without at first) second × Spreads t.triples hi list (without at first) second
-    sides first second sp = (
-      ap (λ k. list_any (nat_eq k) first) (sym parts.at) ∙ listed s.triples is f first wf (let p = parts.at in let m = parts.small in omega arith) sp.depends,
-      spreads-side s.triples list f at false lo first second (record { node = parts.lo_node; above = parts.lo_below; function = parts.lo_function }) sp,
-      spreads-grown s t st list hi (without at first) second parts.hi_node ws (spreads-side s.triples list f at true hi first second (record { node = parts.hi_node; above = parts.hi_below; function = parts.hi_function }) sp),
-    )
-
-    pub substitute-low : SubstituteRoom f list s t
-    substitute-low = record {
-      most = λ first second sp.
-          let h = sides first second sp in
-          let m = first_room.most (without at first) second h.1 in
-          let d : 2 ^ length second * (2 ^ length (without at first) + 2 ^ length (without at first)) ≤ 2 ^ length second * 2 ^ length first = mul-le-mul_left (2 ^ length second) (twice at first h.0) in
-          omega arith;
-    }
-
-    pub substitute-high : SubstituteRoom hi list t u → SubstituteRoom f list s u
-    substitute-high second_room = record {
-      most = λ first second sp.
-          let h = sides first second sp in
-          let m = first_room.most (without at first) second h.1 in
-          let n = second_room.most (without at first) second h.2 in
-          let p : 0 < 2 ^ length second = pow_pos (length second) in
-          let d : 2 ^ length second * (2 ^ length (without at first) + 2 ^ length (without at first)) ≤ 2 ^ length second * 2 ^ length first = mul-le-mul_left (2 ^ length second) (twice at first h.0) in
-          omega arith;
-    }
 
 -- ---- the node of two answers
 -- a node with the bit itself as its choice
@@ -245,34 +180,6 @@ behind ts is (suc fuel) n h w a b same = elim (kind_of ts n w) [
 
 pub substitute-behind : (ts : List Triple) → IsDiagram ts → (list : Images) (n level : ℕ) → IsNode ts n → level_of ts n ≡ level → ((l : ℕ) → level ≤ l → image_of list l ≡ None) → StandsFor ts n (λ a. function_of ts n (substituted ts list a))
 substitute-behind ts is list n level w e none = record { at = λ a. behind ts is (suc n) n (omega arith) w a (substituted ts list a) (λ l le. sym (at-none ts list a l (none l (omega arith)))) }
-
--- an answer in the store that it was made in
-pub substitute-kept : (s v : Store) → Grows s v → (list : Images) → AreNodes s.triples list → (f r : ℕ) → IsNode s.triples f → IsNode v.triples r → StandsFor v.triples r (λ a. function_of s.triples f (substituted s.triples list a)) → IsSubstituted v.triples list f r
-substitute-kept s v g list ws f r wf wr is = record {
-  node = grown-node s v g f wf;
-  answer = wr;
-  is = record { at = λ a. is.at a ∙ sym (grown-function s v g f wf (substituted v.triples list a) ∙ ap (function_of s.triples f) (substituted-grown s v g list ws a)) };
-}
-
-pub substitute-grows : {S : Type 0} (done : IndexMap Node Node S) (s t : Store) (list : Images) → Grows s t → AreNodes s.triples list → AllSubstituted done s.triples list → AllSubstituted done t.triples list
-substitute-grows done s t list g ws old = record {
-  right = λ n r at.
-      let w = old.right n r at in
-      record {
-        node = grown-node s t g n.0 w.node;
-        answer = grown-node s t g r.0 w.answer;
-        is = record { at = λ a. grown-function s t g r.0 w.answer a ∙ w.is.at a ∙ sym (grown-function s t g n.0 w.node (substituted t.triples list a) ∙ ap (function_of s.triples n.0) (substituted-grown s t g list ws a)) };
-      };
-}
-
-pub substitute-more : {S : Type 0} (old new : IndexMap Node Node S) (ts : List Triple) (list : Images) (n r : Node) → AllSubstituted old ts list → IsSubstituted ts list n.0 r.0
-    → ((q v : Node) → get node_eq new q ≡ Some v → ((q ≡ n) × (v ≡ r)) ⊎ (get node_eq old q ≡ Some v)) → AllSubstituted new ts list
-substitute-more old new ts list n r all here says = record {
-  right = λ q v at. elim (says q v at) [
-    | inl same ↦ subst (λ x. IsSubstituted ts list x.0 v.0) (sym same.0) (subst (λ y. IsSubstituted ts list n.0 y.0) (sym same.1) here)
-    | inr there ↦ all.right q v there
-  ];
-}
 
 -- a constant has no levels to replace
 pub substitute-constant : (ts : List Triple) (list : Images) (n : ℕ) → (n ≡ 0) ⊎ (n ≡ 1) → StandsFor ts n (λ a. function_of ts n (substituted ts list a))

@@ -131,7 +131,7 @@ asks times ks = times * 2 ^ length ks - times
 abbrev pub rests : List ℕ → ℕ
 rests ks = 0
 
-some-times : (times n : ℕ) → times ≤ times * 2 ^ n
+pub some-times : (times n : ℕ) → times ≤ times * 2 ^ n
 some-times times n =
     let p : 1 ≤ 2 ^ n = pow_pos n in
     let m : times * 1 ≤ times * 2 ^ n = mul-le-mul_left times p in
@@ -403,6 +403,20 @@ module _ (v : Walk) (limit times : ℕ) (depends : List Triple → ℕ → List 
         let high : visit_work x ≡ 2 * 2 ^ (2 ^ 32 - x.level) - 1 = high-work x.level x.rest h.0 in
         let q : 0 < 2 ^ (2 ^ 32 - x.level) = pow_pos (2 ^ 32 - x.level) in
         omega (arith, e, f, p, low, high, q)
+
+-- a step down that makes no node
+module _ (v : Walk) (limit times : ℕ) (depends : List Triple → ℕ → List ℕ → Type 0) (s : Store) (stays : Stays v s) (dep : IsDependence depends s) (t : Store) (from c : Node) (xs ys : List Visit) (g : Walking v limit times depends s t from xs (step.Down c)) where
+  pub went-down : (w : Step) → WentDown v limit t.triples xs ys c w → Walking v limit times depends s t from ys w
+  went-down (step.Up r) h = walking-made v limit times depends s stays dep t t from c xs ys g (Grows-same t) g.diagram r refl (λ ls d. omega arith) h
+  went-down (step.Down d) h = walking-deeper v limit times depends s dep t from c d xs ys g h
+
+  pub went-work : (w : Step) → WentDown v limit t.triples xs ys c w → walk_work t.triples ys w < walk_work t.triples xs (step.Down c)
+  went-work (step.Up r) h = made-work v limit times depends s stays dep t t from c xs ys g (Grows-same t) g.diagram r h
+  went-work (step.Down d) h = deeper-work v limit times depends s dep t from c d xs ys g h
+
+-- the trail up to the last waiting node
+pub walking-trail : (v : Walk) (limit times : ℕ) (depends : List Triple → ℕ → List ℕ → Type 0) (s t : Store) (from : Node) (xs zs : List Visit) (x : Visit) (r : Node) → xs ≡ zs ++ x ∷ [] → Walking v limit times depends s t from xs (step.Up r) → Trail v limit t.triples from zs x.node
+walking-trail v limit times depends s t from xs zs x r last g = (trail-last v limit t.triples from zs x g.step.0 (subst (λ ws. Trail v limit t.triples from ws g.step.0) last g.step.1.0)).0
 
 -- the answer of the whole
 pub walking-answer : (v : Walk) (limit times : ℕ) (depends : List Triple → ℕ → List ℕ → Type 0) (s t : Store) (from r : Node) → Walking v limit times depends s t from [] (step.Up r) → IsMade v t.triples from.0 r.0

@@ -1,5 +1,5 @@
 -- A walk over the nodes of a diagram, with a list of those that wait for the answers of their sides.
-use Rattle.std.specs.Prelude.{◌≡◌, ℕ, ◌+◌, ◌-◌, ◌<◌, ◌≤◌, ◌^◌, min, Bool, true, false, ◌&&◌, ◌||◌, List, [], ◌∷◌, ◌++◌, Some, Result, Ok, Err}
+use Rattle.std.specs.Prelude.{◌≡◌, ℕ, ◌+◌, ◌*◌, ◌-◌, ◌<◌, ◌≤◌, ◌^◌, min, Bool, true, false, ◌&&◌, ◌||◌, List, [], ◌∷◌, ◌++◌, length, Some, Result, Ok, Err}
 use Rattle.indexmap.specs.IndexMap.{IndexMap, get}
 use Rattle.cb_model.specs.Bits.{Bits, put}
 use Rattle.cb_dd.specs.declared.Triple.{Triple}
@@ -9,6 +9,7 @@ use Rattle.cb_dd.specs.declared.Stop.TheVariants.{Nodes, Memory}
 use Rattle.cb_dd.specs.Diagram.{Store, IsNode, function_of, level_of}
 use Rattle.cb_ops.specs.Ops.{IsCofactor}
 use Rattle.cb_ops.specs.Done.{node_eq}
+use Rattle.cb_ops.specs.Substitute.{Images, Spreads, substituted}
 use Rattle.cb_ops.specs.declared.sides.Sides.{Sides}
 use Rattle.cb_ops.specs.declared.sides.Sides.TheVariants as how
 use Rattle.cb_ops.specs.declared.walk.Visit.{Visit}
@@ -31,6 +32,10 @@ joined how.Both x y = x && y
 -- the walk that joins the two sides of a level
 abbrev pub sides_of : ℕ → Sides → Walk
 sides_of level how ts n a = joined how (function_of ts n (put level false a)) (function_of ts n (put level true a))
+
+-- the walk that replaces levels by nodes
+abbrev pub images_of : Images → Walk
+images_of list ts n a = function_of ts n (substituted ts list a)
 
 -- r is what the walk makes of n
 pub record IsMade (v : Walk) (ts : List Triple) (n r : ℕ) : Type 0 where
@@ -89,3 +94,7 @@ abbrev pub fulls_after_step : ℕ → Result Step Stop → ℕ
 fulls_after_step fulls (Ok s) = fulls
 fulls_after_step fulls (Err Memory) = fulls
 fulls_after_step fulls (Err Nodes) = min (fulls + 1) (2 ^ 64 - 1)
+
+-- the nodes that are made when an answer is handed to a waiting node: no more than rows of the second levels, for each join
+pub record PutRoom (top : Visit) (list : Images) (old new : Store) : Type 0 where
+  pub most : (first second : List ℕ) → Spreads old.triples top.node.0 list first second → length new.triples ≤ length old.triples + 2 ^ length second * joins top.rest

@@ -15,6 +15,7 @@ ghost use Rattle.cb_ops.specs.Waiting.{AreCalled, Asked, Resumed, Waits, IsHalf,
 ghost use Rattle.cb_ops.specs.Pair.{IsSamePair};
 ghost use Rattle.cb_ops.specs.declared.Call.{Call};
 
+mod replace;
 mod sides;
 mod walk;
 
@@ -417,147 +418,6 @@ impl Ops {
         })
     }
 
-    /// The node with each level of the list replaced by its node, all at once. It is the node itself where all its
-    /// levels are greater than the last one of the list.
-    pub fn substitute(&mut self, f: Node, list: &[(u32, Node)]) -> Result<Node, Stop>
-        requires f { IsNode self.old.triples f.0 }
-        requires nodes { AreNodes self.old.triples list.now }
-        requires rise { IsStrictlyIncreasing (map (λ p. p.0) list.now) }
-        ensures is_node { IfOk result (λ n. IsNode self.new.triples n.0) }
-        ensures function { IfOk result (λ n. StandsFor self.new.triples n.0 (λ a.
-            function_of self.old.triples f.0
-            (substituted self.old.triples list.now a))) }
-        ensures grows { Grows self.old self.new }
-        ensures room { SubstituteRoom f.0 list.now self.old self.new }
-        ensures full { result ≡ Err Stop.Nodes → length self.new.triples ≡ self.new.budget }
-        ensures nodes { result ≡ Err Stop.Nodes → SubstituteCause f.0 list.now self.old self.new }
-        ensures unbounded { self.old.budget ≡ 2 ^ 64 - 1 → result ≢ Err Stop.Nodes }
-        ensures fulls { self.new.fulls ≡ fulls_after self.old.fulls result }
-        ensures diagram { IsDiagram self.new.triples }
-    {
-        let mut done = IndexMap::new(*self.memo.allocator());
-        let n = self.replace_in(f, list, &mut done)?;
-        Ok(n)
-    }
-
-    /// The same, with a memo that serves several nodes: the nodes for which it is done, each with its answer.
-    pub fn substitute_in(
-        &mut self,
-        f: Node,
-        list: &[(u32, Node)],
-        done: &mut IndexMap<Node, Node>,
-    ) -> Result<Node, Stop>
-        requires f { IsNode self.old.triples f.0 }
-        requires nodes { AreNodes self.old.triples list.now }
-        requires rise { IsStrictlyIncreasing (map (λ p. p.0) list.now) }
-        requires done { AllSubstituted done.old self.old.triples list.now }
-        ensures is_node { IfOk result (λ n. IsNode self.new.triples n.0) }
-        ensures function { IfOk result (λ n. StandsFor self.new.triples n.0 (λ a.
-            function_of self.old.triples f.0
-            (substituted self.old.triples list.now a))) }
-        ensures grows { Grows self.old self.new }
-        ensures room { SubstituteRoom f.0 list.now self.old self.new }
-        ensures full { result ≡ Err Stop.Nodes → length self.new.triples ≡ self.new.budget }
-        ensures nodes { result ≡ Err Stop.Nodes → SubstituteCause f.0 list.now self.old self.new }
-        ensures unbounded { self.old.budget ≡ 2 ^ 64 - 1 → result ≢ Err Stop.Nodes }
-        ensures fulls { self.new.fulls ≡ fulls_after self.old.fulls result }
-        ensures diagram { IsDiagram self.new.triples }
-        ensures done { AllSubstituted done.new self.new.triples list.now }
-    {
-        let n = self.replace_in(f, list, done)?;
-        Ok(n)
-    }
-
-    // The same by recursion over the levels.
-    fn replace_in(
-        &mut self,
-        f: Node,
-        list: &[(u32, Node)],
-        done: &mut IndexMap<Node, Node>,
-    ) -> Result<Node, Stop>
-        requires f { IsNode self.old.triples f.0 }
-        requires nodes { AreNodes self.old.triples list.now }
-        requires rise { IsStrictlyIncreasing (map (λ p. p.0) list.now) }
-        requires done { AllSubstituted done.old self.old.triples list.now }
-        ensures is_node { IfOk result (λ n. IsNode self.new.triples n.0) }
-        ensures function { IfOk result (λ n. StandsFor self.new.triples n.0 (λ a.
-            function_of self.old.triples f.0
-            (substituted self.old.triples list.now a))) }
-        ensures grows { Grows self.old self.new }
-        ensures room { SubstituteRoom f.0 list.now self.old self.new }
-        ensures full { result ≡ Err Stop.Nodes → length self.new.triples ≡ self.new.budget }
-        ensures unbounded { self.old.budget ≡ 2 ^ 64 - 1 → result ≢ Err Stop.Nodes }
-        ensures fulls { self.new.fulls ≡ fulls_after self.old.fulls result }
-        ensures diagram { IsDiagram self.new.triples }
-        ensures done { AllSubstituted done.new self.new.triples list.now }
-    {
-        let _count = self.count();
-        let Some((at, lo, hi)) = self.parts(f) else {
-            return Ok(f);
-        };
-        if are_below(list, at) {
-            return Ok(f);
-        }
-        if let Some(r) = recall_in(done, f) {
-            return Ok(r);
-        }
-        let low = self.replace_in(lo, list, done)?;
-        let high = self.replace_in(hi, list, done)?;
-        let r = self.compose(at, low, high, list)?;
-        remember(done, f, r);
-        Ok(r)
-    }
-
-    // The node that is `high` where what replaces the level is 1, and `low` where it is 0.
-    fn compose(
-        &mut self,
-        level: u32,
-        low: Node,
-        high: Node,
-        list: &[(u32, Node)],
-    ) -> Result<Node, Stop>
-        requires low { IsNode self.old.triples low.0 }
-        requires high { IsNode self.old.triples high.0 }
-        requires nodes { AreNodes self.old.triples list.now }
-        requires rise { IsStrictlyIncreasing (map (λ p. p.0) list.now) }
-        ensures is_node { IfOk result (λ n. IsNode self.new.triples n.0) }
-        ensures function { IfOk result (λ n. IsJoined self.old.triples self.new.triples level low.0 high.0 list.now n.0) }
-        ensures grows { Grows self.old self.new }
-        ensures room { JoinRoom level low.0 high.0 list.now self.old self.new }
-        ensures full { result ≡ Err Stop.Nodes → length self.new.triples ≡ self.new.budget }
-        ensures unbounded { self.old.budget ≡ 2 ^ 64 - 1 → result ≢ Err Stop.Nodes }
-        ensures fulls { self.new.fulls ≡ fulls_after self.old.fulls result }
-        ensures diagram { IsDiagram self.new.triples }
-    {
-        let _count = self.count();
-        let Some(choice) = replacing(list, level) else {
-            return self.join(level, low, high);
-        };
-        self.ite(choice, high, low)
-    }
-
-    // The node that is `high` where the bit at the level is 1, and `low` where it is 0.
-    fn join(&mut self, level: u32, low: Node, high: Node) -> Result<Node, Stop>
-        requires low { IsNode self.old.triples low.0 }
-        requires high { IsNode self.old.triples high.0 }
-        ensures is_node { IfOk result (λ n. IsNode self.new.triples n.0) }
-        ensures function { IfOk result (λ n. IsJoined self.old.triples self.new.triples level low.0 high.0 [] n.0) }
-        ensures grows { Grows self.old self.new }
-        ensures room { JoinRoom level low.0 high.0 [] self.old self.new }
-        ensures full { result ≡ Err Stop.Nodes → length self.new.triples ≡ self.new.budget }
-        ensures unbounded { self.old.budget ≡ 2 ^ 64 - 1 → result ≢ Err Stop.Nodes }
-        ensures fulls { self.new.fulls ≡ fulls_after self.old.fulls result }
-        ensures diagram { IsDiagram self.new.triples }
-    {
-        let _count = self.count();
-        let at = level as u64;
-        if at < self.level(low) && at < self.level(high) {
-            return self.node(level, low, high);
-        }
-        let own = self.node(level, Node::ZERO, Node::ONE)?;
-        self.ite(own, high, low)
-    }
-
     /// Whether the node is 1 at some assignment; if so, `into` becomes the least that makes it so, its i-th bit for
     /// the level at place i: 0 before 1, and the first level weighs most. Else `into` is kept.
     pub fn least_true(&self, f: Node, levels: &[u32], into: &mut [bool]) -> bool
@@ -901,30 +761,6 @@ fn else_side(f: Node, h: Node) -> Node
         return Node::ZERO;
     }
     h
-}
-
-// The node that replaces the level, if one does.
-fn replacing(list: &[(u32, Node)], level: u32) -> Option<Node>
-    requires { IsStrictlyIncreasing (map (λ p. p.0) list.now) }
-    ensures { result ≡ image_of list.now level }
-{
-    let i = list.partition_point(|entry| entry.0 < level);
-    let entry = list.get(i)?;
-    if entry.0 == level {
-        return Some(entry.1);
-    }
-    None
-}
-
-// Whether all levels of the list are less than this one.
-fn are_below(list: &[(u32, Node)], level: u32) -> bool
-    requires { IsStrictlyIncreasing (map (λ p. p.0) list.now) }
-    ensures { IsTrue result → (l : ℕ) → level ≤ l → image_of list.now l ≡ None }
-{
-    match list.last() {
-        Some(entry) => entry.0 < level,
-        None => true,
-    }
 }
 
 // What was remembered for the node.
