@@ -2,7 +2,7 @@
 
 ghost use Rattle.std.specs.Prelude.{◌≡◌, ◌||◌, [], ◌∷◌, None, map, MatchResult, IfOk, OnOk};
 ghost use Rattle.cb_model.specs.Forms.{clause_form};
-ghost use Rattle.cb_model.specs.Directives.{Sign, has_sign, heads as heads_of, directives};
+ghost use Rattle.cb_model.specs.Directives.{Sign, nothing, has_sign, heads as heads_of, directives};
 ghost use Rattle.cb_directives.specs.Refusals.{Tells};
 ghost use Rattle.cb_directives.specs.Checks.{check_other, check_delay, others, delayed, Accepts, Refuses};
 
@@ -100,6 +100,21 @@ impl<'s> Declarations<'s> {
         }
         Ok(())
     }
+
+    /// All directives, where nothing is declared yet: first those other than `delay`, and then those.
+    fn declare_all(
+        &mut self,
+        alloc: Global,
+        heads: &Signs<'s>,
+        clauses: &[RawClause<'s>],
+    ) -> Result<(), LoadError>
+        requires none { self.old ≡ nothing }
+        requires heads { (a : Sign) → has_sign heads.now a ≡ has_sign (heads_of (map clause_form clauses.now)) a }
+        ensures { MatchResult result (λ _. directives (map clause_form clauses.now) ≡ record { refusal = None; declared = self.new }) (λ e. Tells e (directives (map clause_form clauses.now)).refusal) }
+    {
+        self.declare_others(alloc, clauses)?;
+        self.declare_delays(alloc, heads, clauses)
+    }
 }
 
 /// What the directives of a file declare, wherever they stand: first those other than `delay` are checked in the order
@@ -113,7 +128,11 @@ pub fn declare<'s>(
     ensures { MatchResult result (λ d. directives (map clause_form clauses.now) ≡ record { refusal = None; declared = d }) (λ e. Tells e (directives (map clause_form clauses.now)).refusal) }
 {
     let mut declared = Declarations::new(alloc);
-    declared.declare_others(alloc, clauses)?;
-    declared.declare_delays(alloc, heads, clauses)?;
-    Ok(declared)
+    match declared.declare_all(alloc, heads, clauses) {
+        Ok(()) => Ok(declared),
+        Err(error) => {
+            drop(declared);
+            Err(error)
+        }
+    }
 }

@@ -16,7 +16,10 @@ use Rattle.cb_boole.proofs.Point.{put_other}
 use Rattle.cb_boole.proofs.Only.{IsHeld, weaker}
 use Rattle.cb_boole.proofs.Chain.{solved_off}
 use Rattle.cb_boole.proofs.Unify.{AreFree, at_point, cases_stands, constant_away, left_from, left_into, not_solvable, good_after, is_instance, got_back}
+use Rattle.cb_boole.specs.Form.{IsForm}
+use Rattle.cb_boole.proofs.Form.{Falls, form_after}
 use Rattle.cb_boole.proofs.Grow.{fit_two}
+use Rattle.cb_solution.specs.Solution.{IsFalling}
 use Rattle.cb_solution.proofs.Solved.{listed-here, listed-there, listed-cases}
 use Rattle.cb_elim.specs.declared.Change.{Change}
 use Rattle.cb_elim.specs.Store.{Seen, IsStore, IsArgument, IsAsBefore, OnlyNodes, AreThere, with_fulls, stands_in, value_in, view_of}
@@ -67,6 +70,15 @@ held-from c [] l (inr none) = absurd (true≢false (sym none))
 held-from c (k ∷ ls) l (inl h) = inr (held-from c ls l (inl h))
 held-from c (k ∷ ls) l (inr h) = elim (listed-cases k l ls h) [ inl same ↦ inl same | inr there ↦ inr (held-from c ls l (inr there)) ]
 
+-- that levels fall, said one after another
+each-below : (l : ℕ) (ls : List ℕ) → ((k : ℕ) → IsListed ls k → k < l) → Each (λ k. k < l) ls
+each-below l [] h = tt
+each-below l (k ∷ ls) h = (h k (listed-here k ls), each-below l ls (λ j there. h j (listed-there k j ls there)))
+
+falls : (ls : List ℕ) → IsFalling ls → Falls ls
+falls [] f = tt
+falls (l ∷ ls) f = (each-below l ls f.0, falls ls f.1)
+
 module _ (s : Seen) (st : IsStore s) (f g : ℕ) (a : IsArgument s f) (b : IsArgument s g) where
   fit-differ : IsFit (view_of s) (differ s.nodes.triples f g)
   fit-differ = fit_two (view_of s) xor (function_of s.nodes.triples f) (function_of s.nodes.triples g) a.fit b.fit
@@ -94,6 +106,9 @@ module _ (s : Seen) (st : IsStore s) (f g : ℕ) (a : IsArgument s f) (b : IsArg
 
       good-unified : IsGood (unified (view_of s) ls (differ s.nodes.triples f g))
       good-unified = good_after (view_of s) st.good ls are-free (differ s.nodes.triples f g) fit-differ none_left
+
+      form-unified : IsForm (unified (view_of s) ls (differ s.nodes.triples f g))
+      form-unified = form_after (view_of s) st.good st.form ls are-free (falls ls el.falls) (differ s.nodes.triples f g) fit-differ are-held none_left
 
       solved-unified : IsSolved (view_of s) (unified (view_of s) ls (differ s.nodes.triples f g)) (function_of s.nodes.triples f) (function_of s.nodes.triples g)
       solved-unified = record {
@@ -132,6 +147,7 @@ module _ (s : Seen) (st : IsStore s) (f g : ℕ) (a : IsArgument s f) (b : IsArg
         pub store-solved : AreThere t.triples vs → length vs ≡ length s.slots → Each (λ c. c.slot < length s.slots) cs → Each (λ c. IsNode t.triples c.value.0) cs → IsStore (record s { slots = vs; trail = cs; nodes = t })
         store-solved there number within changed = record {
           good = subst IsGood (sym view-unified) good-unified;
+          form = subst IsForm (sym view-unified) form-unified;
           slots = λ x h. let w : x < length s.slots = st.slots x h in omega arith;
           levels = st.levels;
           constants = st.constants;

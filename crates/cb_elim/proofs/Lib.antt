@@ -17,3 +17,4 @@ mod Added
 mod Covering
 mod Kept
 mod Noting
+mod Live

@@ -16,8 +16,8 @@ ghost use Rattle.cb_elim.specs.Store.{Seen, AddsSlot, IsStore, IsArgument, IsAsB
 ghost use Rattle.cb_model.specs.Values.{expr_value, in_scope};
 ghost use Rattle.std.specs.Borrow.{sem};
 ghost use Rattle.cb_elim.specs.Lending.{LendsOps};
-ghost use Rattle.cb_elim.specs.Laws.{NoneIsRefuted, RangeGrows, SolvedIsSolvable};
-ghost use Rattle.cb_elim.specs.Expression.{ExprCause, ExprRoom, variable_bits};
+ghost use Rattle.cb_elim.specs.Laws.{NoneIsRefuted, RangeGrows, SolvedIsSolvable, live_levels};
+ghost use Rattle.cb_elim.specs.Expression.{AreLevels, ExprCause, ExprRoom, variable_bits};
 ghost use Rattle.cb_elim.specs.Equation.{AreMoved, GeneralRoom, MovedRoom};
 ghost use Rattle.cb_ops.specs.Support.{IsListed};
 ghost use Rattle.cb_elim.specs.Unified.{HasCause, HasNone, HasSameValues, IsMostGeneral, IsReproductive, IsSolutionOf, IsSolved, OnlyValues, UnifyCause};
@@ -133,6 +133,13 @@ impl Store {
         ensures { result ≡ self.now.drawn }
     {
         self.drawn
+    }
+
+    /// The free levels with their variables, in the order of making.
+    pub fn free(&self) -> &[Free]
+        ensures { result.now ≡ self.now.free }
+    {
+        &self.free
     }
 
     /// The operations, for reading.
@@ -494,6 +501,12 @@ pub fn range_is_of_the_equations()
     ensures grows { RangeGrows }
     ensures solvable { SolvedIsSolvable }
     ensures refuted { NoneIsRefuted }
+{}
+
+/// The values of the slots depend on the levels of the constants and the free levels alone. So a bound over the levels on
+/// which the slots depend holds with as many as there are constants and variables.
+pub fn values_depend_on_live_levels()
+    ensures { (s : Seen) → IsStore s → AreLevels s.nodes.triples s.constants s.slots (live_levels s) }
 {}
 
 /// A store to which nodes alone were added is one, each node that could be handed to it still can, and each moment is

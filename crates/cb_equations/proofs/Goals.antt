@@ -1,6 +1,6 @@
 -- A body of Boolean equations, and the goals and sorts that it stands for.
-use Rattle.std.proofs.Common.{◌≡◌, inl, inr, ℕ, zero, suc, ◌+◌, Bool, true, false, List, [], ◌∷◌, map, length, refl, sym, ◌∙◌, ap, subst, arith}
-use Rattle.std.specs.Prelude.{Option, Some, None, slice_get, codes, if◌then◌else◌}
+use Rattle.std.proofs.Common.{◌≡◌, ℕ, zero, suc, ◌+◌, Bool, true, false, List, [], ◌∷◌, map, length, refl, sym, ◌∙◌, ap, subst, arith}
+use Rattle.std.specs.Prelude.{Option, Some, slice_get, codes, if◌then◌else◌}
 use Rattle.std.proofs.lemmas.Bool.{false≢true}
 use Rattle.cb_model.specs.declared.Sort.{Sort}
 use Rattle.cb_model.specs.declared.Sort.TheVariants as sort
@@ -17,59 +17,15 @@ use Rattle.cb_model.specs.Text.{Text}
 use Rattle.cb_model.specs.Values.{in_scope}
 use Rattle.cb_model.specs.Grammar.{Form, Forms, Variable, Integer, Name, Closed, Open, Not, And, Xor, Or, Last, More, FormGoal, ACall, AnEqual}
 use Rattle.cb_model.specs.Directives.{Sign, Declared, same_sign, count_of, sorts_of}
-use Rattle.cb_model.specs.Sorts.{Body, left, right, Subject, Var, Equation, HasSort, Clash, two_marks, Numbering, sign_number, as_tree, as_trees, as_expr, circuit_sign}
+use Rattle.cb_model.specs.Sorts.{Body, left, right, Var, Equation, HasSort, Clash, Numbering, sign_number, as_tree, as_trees, as_expr, circuit_sign}
 use Rattle.cb_model.specs.Loading.{body_variables, HaveSorts, no_sorts, more_sorts, IsGoal, a_call, an_equal, AreGoals, no_goals, more_goals, numbering, call_goal, circuit_goal}
 use Rattle.cb_laws.specs.Laws.{Equal, pairs_in_scope}
 use Rattle.cb_equations.specs.Runs.{equation}
 use Rattle.cb_equations.specs.Scope.{IsBooleanEquation, Reads, EquationsRead}
-use Rattle.cb_equations.proofs.Scope.{sides_in_scope, sort_differs}
-
--- ---- a subject has one sort
-
-one_sort : (d : Declared) (b : Body) (x : Subject) (s t : Sort) → (Clash d b → ⊥) → HasSort d b x s → HasSort d b x t → s ≡ t
-one_sort d b x s t none (inl m) (inl n) = elim (sort_differs s t) [ inl h ↦ h | inr h ↦ absurd (none (two_marks x s t m n h)) ]
-one_sort d b x s t none (inl m) (inr n) = absurd (n.0 s m)
-one_sort d b x s t none (inr m) (inl n) = absurd (m.0 t n)
-one_sort d b x s t none (inr m) (inr n) = m.1 ∙ sym n.1
-
--- ---- the sort of a tree by its form
-
-abbrev tree_sort_step : Tree-F Sort → Sort
-tree_sort_step (Tree-F.Leaf e) = sort.Bool
-tree_sort_step (Tree-F.Bus es t) = sort.Bus
-tree_sort_step _ = sort.Term
-
-abbrev tree_sort : Tree → Sort
-tree_sort = fold-Tree Sort tree_sort_step
-
-sort-leaf : (e : Expr) → tree_sort (tree.Leaf e) ≡ sort.Bool
-sort-leaf e = ap tree_sort (sym (tree.rolls-Leaf e)) ∙ fold-roll-Tree Sort tree_sort_step (Tree-F.Leaf e)
-
-sort-bus : (es : List Expr) (t : Option ℕ) → tree_sort (tree.Bus es t) ≡ sort.Bus
-sort-bus es t = ap tree_sort (sym (tree.rolls-Bus es t)) ∙ fold-roll-Tree Sort tree_sort_step (Tree-F.Bus es t)
-
-sort-term : (n : ℕ) → tree_sort (tree.Var n) ≡ sort.Term
-sort-term n = ap tree_sort (sym (tree.rolls-Var n)) ∙ fold-roll-Tree Sort tree_sort_step (Tree-F.Var n)
-
-sort-int : (z : Rattle.std.specs.Prelude.ℤ) → tree_sort (tree.Int z) ≡ sort.Term
-sort-int z = ap tree_sort (sym (tree.rolls-Int z)) ∙ fold-roll-Tree Sort tree_sort_step (Tree-F.Int z)
-
-sort-node : (n : ℕ) (ts : List Tree) → tree_sort (tree.Node n ts) ≡ sort.Term
-sort-node n ts = ap tree_sort (sym (tree.rolls-Node n ts)) ∙ fold-roll-Tree Sort tree_sort_step (Tree-F.Node n ts)
-
--- a form at a sort stands for a tree of that sort
-tree_has_sort : (d : Declared) (n : Numbering) (s : Sort) (f : Form) → tree_sort (as_tree d n s f) ≡ s
-tree_has_sort d n sort.Bool f = sort-leaf _
-tree_has_sort d n sort.Bus f = sort-bus _ _
-tree_has_sort d n sort.Term (Variable x) = sort-term _
-tree_has_sort d n sort.Term (Integer z) = sort-int z
-tree_has_sort d n sort.Term (Name x fs) = sort-node _ _
-tree_has_sort d n sort.Term (Closed fs) = sort-int _
-tree_has_sort d n sort.Term (Open fs f) = sort-int _
-tree_has_sort d n sort.Term (Not f) = sort-int _
-tree_has_sort d n sort.Term (And fs) = sort-int _
-tree_has_sort d n sort.Term (Xor fs) = sort-int _
-tree_has_sort d n sort.Term (Or fs) = sort-int _
+use Rattle.cb_laws.proofs.SortedTrees.{sort-leaf, tree_has_sort}
+use Rattle.cb_laws.proofs.SortedGoals.{one_sort}
+use Rattle.cb_model.specs.Sorted.{tree_sort}
+use Rattle.cb_equations.proofs.Scope.{sides_in_scope}
 
 -- ---- goals
 

@@ -1,9 +1,8 @@
 -- The sides of Boolean equations have only constants and variables that there are.
-use Rattle.std.proofs.Common.{◌≡◌, ◌≢◌, ◌⊎◌, inl, inr, ℕ, zero, suc, ◌+◌, ◌<◌, Bool, true, false, cond, not, ◌||◌, nat_lt, List, [], ◌∷◌, ◌++◌, map, length, refl, sym, ◌∙◌, ap, subst, arith, ℤ, pos, bytes_eq}
-use Rattle.std.specs.Prelude.{Some, None, slice_get, position, if◌then◌else◌}
-use Rattle.std.specs.List.{list_any, Contains, position_or_len}
-use Rattle.std.proofs.lemmas.Bool.{lt-ltb, cond-true}
-use Rattle.std.proofs.lemmas.Slice.Eq.{bytes_eq-Decides}
+use Rattle.std.proofs.Common.{◌≡◌, inl, inr, ℕ, zero, suc, Bool, true, false, nat_lt, List, [], ◌∷◌, ◌++◌, map, length, refl, sym, ◌∙◌, ap, subst, arith, ℤ, pos, bytes_eq}
+use Rattle.std.specs.Prelude.{Some, slice_get, if◌then◌else◌}
+use Rattle.std.specs.List.{list_any, Contains}
+use Rattle.std.proofs.lemmas.Bool.{lt-ltb}
 use Rattle.std.proofs.lemmas.List.Elements.{Contains-append_left, Contains-append_right}
 use Rattle.cb_model.specs.declared.Sort.{Sort}
 use Rattle.cb_model.specs.declared.Sort.TheVariants as sort
@@ -17,7 +16,9 @@ use Rattle.cb_model.specs.Values.{in_scope, in_scope_step}
 use Rattle.cb_model.specs.Grammar.{Form, Forms, Variable, Integer, Name, Closed, Open, Not, And, Xor, Or, Last, More, FormGoal, ACall, AnEqual}
 use Rattle.cb_model.specs.Directives.{Declared}
 use Rattle.cb_model.specs.Sorts.{Body, Place, below, operand_places, goal_places, goals_places, head_places, all_places, form_sort, IsSide, left, right, Equation, HasSort, Clash, wrong_place, wrong_side, Numbering, number_in, bit_expr, as_expr, as_exprs}
-use Rattle.cb_model.specs.Loading.{add_name, variables_of, variables_in, goals_variables, head_variables, numbering}
+use Rattle.cb_model.specs.Loading.{variables_of, variables_in, goals_variables, head_variables, numbering}
+use Rattle.cb_laws.proofs.Listed.{Extends, number_below, extends_then, add_has, of_extends, in_extends, goals_extend}
+use Rattle.cb_laws.proofs.SortedGoals.{sort_differs}
 use Rattle.cb_equations.specs.Scope.{SidesInScope}
 
 -- ---- what is in scope, one equation for each constructor
@@ -47,98 +48,7 @@ module _ (c v : ℕ) where
   scope-or : (xs : List Expr) → in_scope c v (expr.Or xs) ≡ all_of (map (in_scope c v) xs)
   scope-or xs = ap (in_scope c v) (sym (expr.rolls-Or xs)) ∙ fold-roll-Expr Bool (in_scope_step c v) (Expr-F.Or xs)
 
--- ---- names that a list has
-
--- the second list has each name that the first has
-abbrev Extends : List Text → List Text → Type 0
-Extends xs ys = (x : Text) → list_any (bytes_eq x) xs ≡ true → list_any (bytes_eq x) ys ≡ true
-
-or_left : (a b : Bool) → a ≡ true → (a || b) ≡ true
-or_left true b h = refl
-or_left false b h = absurd (cc)
-
-or_right : (a b : Bool) → b ≡ true → (a || b) ≡ true
-or_right true b h = refl
-or_right false b h = h
-
-or_cases : (a b : Bool) → (a || b) ≡ true → (a ≡ true) ⊎ (b ≡ true)
-or_cases true b h = inl refl
-or_cases false b h = inr h
-
-any_front : (p : Text → Bool) (xs ys : List Text) → list_any p xs ≡ true → list_any p (xs ++ ys) ≡ true
-any_front p [] ys h = absurd (cc)
-any_front p (x ∷ xs) ys h = elim (or_cases (p x) (list_any p xs) h) [
-  | inl e ↦ or_left (p x) (list_any p (xs ++ ys)) e
-  | inr e ↦ or_right (p x) (list_any p (xs ++ ys)) (any_front p xs ys e)
-]
-
-any_last : (p : Text → Bool) (xs : List Text) (y : Text) → p y ≡ true → list_any p (xs ++ y ∷ []) ≡ true
-any_last p [] y h = or_left (p y) false h
-any_last p (x ∷ xs) y h = or_right (p x) (list_any p (xs ++ y ∷ [])) (any_last p xs y h)
-
--- a name that a list has is at a place of it
-any_within : (p : Text → Bool) (xs : List Text) → list_any p xs ≡ true → position_or_len p xs < length xs
-any_within p [] h = absurd (cc)
-any_within p (x ∷ xs) h = step (p x) h (any_within p xs)
-  where
-    step : (b : Bool) → (b || list_any p xs) ≡ true → (list_any p xs ≡ true → position_or_len p xs < length xs) → cond (not b) (1 + position_or_len p xs) 0 < suc (length xs)
-    step true h r = omega arith
-    step false h r = let k = r h in omega arith
-
-number_below : (xs : List Text) (x : Text) → list_any (bytes_eq x) xs ≡ true → number_in xs x < length xs
-number_below xs x h =
-    let w : position_or_len (bytes_eq x) xs < length xs = any_within (bytes_eq x) xs h in
-    let at : position (bytes_eq x) xs ≡ Some (position_or_len (bytes_eq x) xs) = cond-true (nat_lt (position_or_len (bytes_eq x) xs) (length xs)) (Some (position_or_len (bytes_eq x) xs)) None (lt-ltb (position_or_len (bytes_eq x) xs) (length xs) w) in
-    rw at w
-
 -- ---- the variables of a form
-
-extends_same : (xs : List Text) → Extends xs xs
-extends_same xs x h = h
-
-extends_then : (xs ys zs : List Text) → Extends xs ys → Extends ys zs → Extends xs zs
-extends_then xs ys zs p q x h = q x (p x h)
-
-add_extends : (xs : List Text) (y : Text) → Extends xs (add_name xs y)
-add_extends xs y x h = step (list_any (bytes_eq y) xs)
-  where
-    step : (b : Bool) → list_any (bytes_eq x) (if b then xs else (xs ++ y ∷ [])) ≡ true
-    step true = h
-    step false = any_front (bytes_eq x) xs (y ∷ []) h
-
-same_bytes : (x : Text) → bytes_eq x x ≡ true
-same_bytes x = (bytes_eq-Decides x x).1 refl
-
-add_has : (xs : List Text) (y : Text) → list_any (bytes_eq y) (add_name xs y) ≡ true
-add_has xs y = step (list_any (bytes_eq y) xs) refl
-  where
-    step : (b : Bool) → list_any (bytes_eq y) xs ≡ b → list_any (bytes_eq y) (if b then xs else (xs ++ y ∷ [])) ≡ true
-    step true h = h
-    step false h = any_last (bytes_eq y) xs y (same_bytes y)
-
-mutual
-  of_extends : (xs : List Text) (f : Form) → Extends xs (variables_of xs f)
-  of_extends xs (Variable x) = add_extends xs x
-  of_extends xs (Integer z) = extends_same xs
-  of_extends xs (Name n fs) = in_extends xs fs
-  of_extends xs (Closed fs) = in_extends xs fs
-  of_extends xs (Open fs f) = extends_then xs (variables_in xs fs) (variables_of (variables_in xs fs) f) (in_extends xs fs) (of_extends (variables_in xs fs) f)
-  of_extends xs (Not f) = of_extends xs f
-  of_extends xs (And fs) = in_extends xs fs
-  of_extends xs (Xor fs) = in_extends xs fs
-  of_extends xs (Or fs) = in_extends xs fs
-
-  in_extends : (xs : List Text) (fs : Forms) → Extends xs (variables_in xs fs)
-  in_extends xs Last = extends_same xs
-  in_extends xs (More f fs) = extends_then xs (variables_of xs f) (variables_in (variables_of xs f) fs) (of_extends xs f) (in_extends (variables_of xs f) fs)
-
-goals_extend : (xs : List Text) (gs : List FormGoal) → Extends xs (goals_variables xs gs)
-goals_extend xs [] = extends_same xs
-goals_extend xs (ACall f ∷ gs) = extends_then xs (variables_of xs f) (goals_variables (variables_of xs f) gs) (of_extends xs f) (goals_extend (variables_of xs f) gs)
-goals_extend xs (AnEqual f g ∷ gs) =
-    extends_then xs (variables_of (variables_of xs f) g) (goals_variables (variables_of (variables_of xs f) g) gs)
-    (extends_then xs (variables_of xs f) (variables_of (variables_of xs f) g) (of_extends xs f) (of_extends (variables_of xs f) g))
-    (goals_extend (variables_of (variables_of xs f) g) gs)
 
 -- the list has each variable of the form that stands at a Boolean place or below one
 abbrev mutual
@@ -207,17 +117,6 @@ here_at p ps = Contains-append_left (p ∷ []) ps p (0, omega arith, refl)
 -- a form at a Boolean place has no sort of its own, or it is Boolean
 abbrev IsBit : Declared → Form → Type 0
 IsBit d f = (t : Sort) → form_sort d.constants f ≡ Some t → sort.Bool ≡ t
-
-pub sort_differs : (s t : Sort) → (s ≡ t) ⊎ (s ≢ t)
-sort_differs sort.Bool sort.Bool = inl refl
-sort_differs sort.Bus sort.Bus = inl refl
-sort_differs sort.Term sort.Term = inl refl
-sort_differs sort.Bool sort.Bus = inr (λ e. absurd (cc))
-sort_differs sort.Bool sort.Term = inr (λ e. absurd (cc))
-sort_differs sort.Bus sort.Bool = inr (λ e. absurd (cc))
-sort_differs sort.Bus sort.Term = inr (λ e. absurd (cc))
-sort_differs sort.Term sort.Bool = inr (λ e. absurd (cc))
-sort_differs sort.Term sort.Bus = inr (λ e. absurd (cc))
 
 all_sound : (d : Declared) (b : Body) → (Clash d b → ⊥) → AreSound d (all_places d b)
 all_sound d b none s f c t e = elim (sort_differs s t) [ inl h ↦ h | inr n ↦ absurd (none (wrong_place f s t c e n)) ]

@@ -74,12 +74,12 @@ run_one : (p : Program) (b : Branch) (gs : List Goal) (c d : Change) → RunMove
 run_one p b [] c d m n = m ∙ sym n
 run_one p b (g ∷ gs) c d m n = goal_one p (record b { goals = gs }) g c d m n
 
-moves_one : (p : Program) (e : Entry) (c d : Change) → Moves p e c → Moves p e d → c ≡ d
+pub moves_one : (p : Program) (e : Entry) (c d : Change) → Moves p e c → Moves p e d → c ≡ d
 moves_one p (Run b) c d m n = run_one p b b.goals c d m n
 moves_one p (Try b pred args k) c d m n =
     m.2 ∙ ap (λ x. Adds 1 (Rattle.cb_model.specs.Derivation.try_next p b pred args k) (resolved b pred args x)) (some_one (slice_get p.clauses k) m.0 n.0 m.1 n.1) ∙ sym n.2
 
-replaces_one : (p : Program) (c : Change) (es fs : List Entry) → Replaces p c es → Replaces p c fs → es ≡ fs
+pub replaces_one : (p : Program) (c : Change) (es fs : List Entry) → Replaces p c es → Replaces p c fs → es ≡ fs
 replaces_one p (Answered b) es fs m n = m ∙ sym n
 replaces_one p Dropped es fs m n = m ∙ sym n
 replaces_one p (Becomes e) es fs m n = m ∙ sym n

@@ -4,7 +4,8 @@ pub mod Form
 pub mod Tables
 pub mod Stays
 pub mod Determined
-pub mod OneValuation
+pub mod Begins
+pub mod Printed
 pub mod Depends
 pub mod Decided
 pub mod Shapes
@@ -15,3 +16,11 @@ pub mod OneShape
 pub mod OneLine
 pub mod WrittenForm
 pub mod LineOfTokens
+pub mod Listed
+pub mod SortedTrees
+pub mod ScopedTrees
+pub mod SortedGoals
+pub mod Counts
+pub mod Fits
+pub mod ScopedGoals
+pub mod Operands

@@ -1,23 +1,28 @@
 -- Laws of the definitions: each is the contract of a function of this crate.
-use Rattle.std.specs.Prelude.{◌≡◌, ℕ, ◌+◌, ◌<◌, Bool, true, not, ◌&&◌, MatchBool, List, [], ◌∷◌, ◌++◌, map, length, flat_map, ◌↔◌, Option}
+use Rattle.std.specs.Prelude.{◌≡◌, ℕ, ◌<◌, ◌≤◌, ◌⊎◌, Bool, true, not, ◌&&◌, MatchBool, List, [], ◌∷◌, ◌++◌, map, length, flat_map, ◌↔◌, Option, None, Contains}
+use Rattle.std.specs.List.{list_all}
 use Rattle.cb_model.specs.declared.Expr.{Expr}
 use Rattle.cb_model.specs.declared.Tree.{Tree}
 use Rattle.cb_model.specs.declared.Tree.TheVariants as tree
 use Rattle.cb_model.specs.declared.Goal.{Goal}
-use Rattle.cb_model.specs.declared.Circuit.{Circuit}
+use Rattle.cb_model.specs.declared.Goal.TheVariants as goal
+use Rattle.cb_model.specs.declared.Clause.{Clause}
+use Rattle.cb_model.specs.Directives.{Sign, has_sign, Declared, sorts_of, directives, heads}
+use Rattle.cb_model.specs.Sorted.{clause_fits, goal_fits, operands_fit}
+use Rattle.cb_model.specs.Loading.{module_names, body_of, query_body, BodyRefusal, IsClause, signs_of, goals_signs}
+use Rattle.cb_model.specs.Output.{Loaded, IsLoaded, IsQuery}
 use Rattle.cb_model.specs.Bits.{Bits, Each, bits_of, some_bits, every_bits, xor}
 use Rattle.cb_model.specs.Text.{Text}
-use Rattle.cb_model.specs.Values.{Admitted, World, expr_value, in_scope}
-use Rattle.cb_model.specs.Circuits.{Consistent, Ordered}
+use Rattle.cb_model.specs.Values.{Admitted, World, expr_value, in_scope, tree_in_scope}
 use Rattle.cb_model.specs.Equations.{Item, Pair, Solvable, Refuted, Table, ReadsBelow}
 use Rattle.cb_model.specs.Program.{Program}
-use Rattle.cb_model.specs.Derivation.{Ready, Entry, Branch, Step, Query, Note, End, Plain}
+use Rattle.cb_model.specs.Derivation.{Ready, Entry, Branch, Step, Query, Note, End, Plain, SoFar, printed_of}
 use Rattle.cb_model.specs.Answers.{leaves, IsShape, Gives, Denotes}
 use Rattle.cb_model.specs.Line.{Names, printed_terms, IsLine}
 use Rattle.cb_model.specs.Room.{room_with, BelowRoom}
 use Rattle.cb_model.specs.Tokens.{Token, Fault, Lexes, line_at}
-use Rattle.cb_model.specs.Written.{AreClauses, AreQueries}
-use Rattle.cb_model.specs.Grammar.{IsReading, Whole, FormClause, FormQuery, ReadsClause, ReadsQuery, ReadsAll}
+use Rattle.cb_model.specs.Written.{AreClauses, AreQueries, is_name, goal_written}
+use Rattle.cb_model.specs.Grammar.{IsReading, Whole, Form, FormGoal, FormClause, FormQuery, ReadsClause, ReadsQuery, ReadsAll}
 
 -- ---- Boolean pairs
 
@@ -75,12 +80,37 @@ StepDetermined = (p : Program) (e : Entry) (s s₁ s₂ : List Entry) (v₁ v₂
 abbrev pub RunDetermined : Type 0
 RunDetermined = (p : Program) (q : Query) (budget : ℕ) (ns ms : List Note) (x y : End) → Plain p q budget ns x → Plain p q budget ms y → (ns ≡ ms) × (x ≡ y)
 
+-- one list of notes begins the other
+abbrev pub NotesBegin : List Note → List Note → Type 0
+NotesBegin ns ms = (more : List Note) × (ms ≡ ns ++ more)
+
+-- of two beginnings of one query's run, the notes of one begin those of the other
+abbrev pub SameBeginning : Type 0
+SameBeginning = (p : Program) (q : Query) (budget u v : ℕ) (ns ms : List Note) (s t : List Entry) → SoFar p q budget ns u s → SoFar p q budget ms v t →
+    NotesBegin ns ms ⊎ NotesBegin ms ns
+
+-- so the one that prints more prints first what the other prints
+abbrev pub SamePrints : Type 0
+SamePrints = (p : Program) (q : Query) (budget u v : ℕ) (ns ms : List Note) (s t : List Entry) → SoFar p q budget ns u s → SoFar p q budget ms v t →
+    length (printed_of ns) ≤ length (printed_of ms) → (more : List Branch) × (printed_of ms ≡ printed_of ns ++ more)
+
+-- the equations of a branch that a run prints are solvable
+abbrev pub PrintedAreSolvable : Type 0
+PrintedAreSolvable = (p : Program) (q : Query) (budget used : ℕ) (ns : List Note) (s : List Entry) → SoFar p q budget ns used s →
+    Each (λ b. Solvable p.world b.items) (printed_of ns)
+
 -- ---- answers
 
 -- the parametric form denotes exactly the leaf bits of the solutions
 abbrev pub FormDenotes : Type 0
 FormDenotes = (w : World) (es : List Item) (terms shape : List Tree) (a : Bits) → Admitted w a → Solvable w es → IsShape w es terms shape → (m : ℕ) →
     Denotes (Gives w es terms shape a) m
+
+-- so the parametric form of each branch that a run prints denotes exactly the leaf bits of the branch's solutions
+abbrev pub PrintedDenote : Type 0
+PrintedDenote = (p : Program) (q : Query) (budget used : ℕ) (ns : List Note) (s : List Entry) (b : Branch) → SoFar p q budget ns used s →
+    Contains (printed_of ns) b → (terms shape : List Tree) (a : Bits) → Admitted p.world a → IsShape p.world b.items terms shape → (m : ℕ) →
+    Denotes (Gives p.world b.items terms shape a) m
 
 -- the shape of terms under solvable equations is one
 abbrev pub ShapeIsOne : Type 0
@@ -99,12 +129,51 @@ RoomIsOne = (p : Program) (names : Names) (b : Branch) (shape : List Tree) (n : 
 abbrev pub RoomOfNone : Type 0
 RoomOfNone = (p : Program) (names : Names) (b : Branch) (n : ℕ) → Refuted p.world b.items → BelowRoom p names b n ↔ (n < room_with p b 0)
 
--- ---- circuits
+-- ---- sorts
 
--- a circuit in order has exactly one consistent valuation for each input
-abbrev pub OneValuation : Type 0
-OneValuation = (c : Circuit) (input : List Bool) → c.nets ≡ c.inputs + length c.gates → Ordered c.inputs c.gates → length input ≡ c.inputs →
-    (v : List Bool) × Consistent c input v × ((w : List Bool) → Consistent c input w → w ≡ v)
+-- each name has as many sorts as arguments
+abbrev pub AreCounted : Declared → Type 0
+AreCounted d = (a : Sign) → length (sorts_of d a) ≡ a.1
+
+-- what directives without a refusal declare is counted so
+abbrev pub DirectivesCount : Type 0
+DirectivesCount = (cs : List FormClause) (d : Declared) → directives cs ≡ record { refusal = None; declared = d } → AreCounted d
+
+-- The clause of an accepted rule, over names among which those of the rule are, has in each place a tree of its sort.
+abbrev pub ClausesFit : Type 0
+ClausesFit = (d : Declared) (hs names : List Sign) (ms : List (Option Text)) (f : Form) (gs : List FormGoal) (c : Clause) → AreCounted d → is_name f ≡ true →
+    list_all (has_sign names) (signs_of f ++ goals_signs gs) ≡ true → BodyRefusal d hs ms (body_of f gs) None → IsClause d names ms f gs c →
+    clause_fits (map (sorts_of d) names) c ≡ true
+
+-- the clauses of the program of an accepted file do, and so do the goals of an accepted query over it
+abbrev pub TreesFit : Type 0
+TreesFit = (file : Text) (l : Loaded) (gs : List FormGoal) (p : Program) (q : Query) (names : Names) → IsLoaded file l →
+    BodyRefusal l.declared (heads l.clauses) (module_names l.clauses) (query_body gs) None → IsQuery l gs p q names →
+    (list_all (clause_fits p.world.arguments) p.clauses ≡ true) × (list_all (goal_fits p.world.arguments q.sorts) q.goals ≡ true)
+
+-- the trees of a goal
+abbrev pub goal_trees : Goal → List Tree
+goal_trees (goal.Equal l r) = l ∷ r ∷ []
+goal_trees (goal.Circuit m ins outs) = ins ∷ outs ∷ []
+goal_trees (goal.Call pred args) = args
+goal_trees _ = []
+
+-- the trees of a clause
+abbrev pub clause_trees : Clause → List Tree
+clause_trees c = c.head ++ flat_map goal_trees c.body
+
+-- The clauses of the program of an accepted file have only constants of the file and variables of their own, and so have
+-- the goals of an accepted query over it.
+abbrev pub TreesInScope : Type 0
+TreesInScope = (file : Text) (l : Loaded) (gs : List FormGoal) (p : Program) (q : Query) (names : Names) → IsLoaded file l →
+    BodyRefusal l.declared (heads l.clauses) (module_names l.clauses) (query_body gs) None → IsQuery l gs p q names →
+    (list_all (λ c. list_all (tree_in_scope p.constants (length c.sorts)) (clause_trees c)) p.clauses ≡ true) ×
+    (list_all (tree_in_scope p.constants (length q.sorts)) (flat_map goal_trees q.goals) ≡ true)
+
+-- In the clauses of the program of an accepted file each chain has an operand, and so in the goals of a written query.
+abbrev pub ChainsHaveOperands : Type 0
+ChainsHaveOperands = (file : Text) (l : Loaded) (gs : List FormGoal) (p : Program) (q : Query) (names : Names) → IsLoaded file l → list_all goal_written gs ≡ true → IsQuery l gs p q names →
+    (list_all (λ c. list_all operands_fit (clause_trees c)) p.clauses ≡ true) × (list_all operands_fit (flat_map goal_trees q.goals) ≡ true)
 
 -- ---- the grammar
 

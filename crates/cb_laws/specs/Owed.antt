@@ -1,18 +1,17 @@
 -- Laws of the definitions that are stated and not proved: no contract names them.
-use Rattle.std.specs.Prelude.{◌≡◌, ℕ, ◌+◌, ◌*◌, ◌≤◌, ◌⊎◌, Bool, true, List, length, Option, Some, codes, Contains, ◌↔◌}
+use Rattle.std.specs.Prelude.{◌≡◌, ℕ, ◌+◌, ◌*◌, ◌≤◌, ◌⊎◌, true, List, length, Some, codes, ◌↔◌}
 use Rattle.std.specs.List.{list_all}
 use Rattle.cb_model.specs.declared.Tree.{Tree}
 use Rattle.cb_model.specs.declared.Goal.{Goal}
 use Rattle.cb_model.specs.declared.Outcome.{Outcome}
 use Rattle.cb_model.specs.Text.{Text, IsPrefix}
 use Rattle.cb_model.specs.Values.{World}
-use Rattle.cb_model.specs.Circuits.{Consistent, Module, Flat, circuit_of, flat_named, Agrees, BySpec}
+use Rattle.cb_model.specs.Circuits.{Module, circuit_of, flat_named, Agrees, BySpec}
 use Rattle.cb_model.specs.Equations.{Item, Solvable, Refuted, Substitution, ReadsOnly, Solves, item_in_scope}
 use Rattle.cb_model.specs.Program.{Program}
 use Rattle.cb_model.specs.Derivation.{Ready}
 use Rattle.cb_model.specs.Answers.{IsShape}
-use Rattle.cb_model.specs.Grammar.{FormClause}
-use Rattle.cb_model.specs.Facts.{FactRefusal, Circuits, FactsRead, no_circuits, Spec}
+use Rattle.cb_model.specs.Facts.{Spec}
 use Rattle.cb_model.specs.Adder.{adder_text}
 use Rattle.cb_model.specs.Output.{Loaded, IsLoaded, module_named, spec_named, Output, OutputBegins}
 
@@ -35,12 +34,6 @@ ReadyDecided = (p : Program) (v : ℕ) (es : List Item) (g : Goal) → InScope p
 -- solvable equations have a shape for all terms
 abbrev pub HasShape : Type 0
 HasShape = (w : World) (c v : ℕ) (es : List Item) (terms : List Tree) → InScope c v es → Solvable w es → (shape : List Tree) × IsShape w es terms shape
-
--- the flattened circuit of an accepted module has exactly one consistent valuation for each input, whatever the order of its instances
-abbrev pub FlatHasOne : Type 0
-FlatHasOne = (cs : List FormClause) (r : Option (FactRefusal × ℕ)) (c : Circuits) (f : Flat) (input : List Bool) →
-    FactsRead no_circuits cs r c → Contains c.flats f → length input ≡ f.inputs →
-    (v : List Bool) × (Consistent (circuit_of f) input v × ((w : List Bool) → Consistent (circuit_of f) input w → w ≡ v))
 
 -- the generated text is accepted, and its adder has these sizes and is right
 pub record AdderHolds (n : ℕ) : Type 0 where

@@ -1,7 +1,7 @@
 //! Laws of the definitions: each is the contract of a function that does nothing.
 #![tactic(auto)]
 
-ghost use Rattle.cb_laws.specs.Laws.{SolvableByTables, SolvableDecided, SolvableByTablesBelow, ReadyStays, StepDetermined, RunDetermined, FormDenotes, OneValuation, ShapeIsOne, LineIsOne, RoomIsOne, RoomOfNone, TokenLines, ReadingIsWritten, ClausesAreOne, QueriesAreOne};
+ghost use Rattle.cb_laws.specs.Laws.{SolvableByTables, SolvableDecided, SolvableByTablesBelow, ReadyStays, StepDetermined, RunDetermined, SameBeginning, SamePrints, PrintedAreSolvable, PrintedDenote, FormDenotes, DirectivesCount, ClausesFit, TreesFit, TreesInScope, ChainsHaveOperands, ShapeIsOne, LineIsOne, RoomIsOne, RoomOfNone, TokenLines, ReadingIsWritten, ClausesAreOne, QueriesAreOne};
 
 /// Boolean equations are solvable exactly where they have a solution in the algebra (Boole).
 pub fn solvable_by_tables()
@@ -34,14 +34,34 @@ pub fn run_determined()
     ensures { RunDetermined }
 {}
 
+/// Of two beginnings of one query's run, the notes of one begin those of the other; so what the longer prints begins
+/// with what the shorter prints.
+pub fn same_beginning()
+    ensures notes { SameBeginning }
+    ensures prints { SamePrints }
+{}
+
+/// The equations of each branch that a run prints are solvable, so its parametric form denotes exactly its solutions.
+pub fn printed_are_solvable()
+    ensures solvable { PrintedAreSolvable }
+    ensures denote { PrintedDenote }
+{}
+
 /// The parametric form of an answer denotes exactly the solutions.
 pub fn form_denotes()
     ensures { FormDenotes }
 {}
 
-/// A circuit whose gates read only earlier nets has exactly one valuation for each input.
-pub fn one_valuation()
-    ensures { OneValuation }
+/// A name has as many sorts as arguments, whatever the accepted directives of a file declare. So in the clauses of its
+/// rules and in the goals of a query over it, each place has a tree of its sort: each variable has the sort of its
+/// place, and each compound the arguments that its name has; constants and variables are those that
+/// there are, and each chain has an operand.
+pub fn trees_fit()
+    ensures counted { DirectivesCount }
+    ensures clauses { ClausesFit }
+    ensures whole { TreesFit }
+    ensures scope { TreesInScope }
+    ensures operands { ChainsHaveOperands }
 {}
 
 /// A list of tokens is read as one list of clauses at most.

@@ -78,6 +78,9 @@ module _ (w : Walk) (things count : ℕ) (ss slice : List Sort) (bits : List ℕ
           distinct : sort.Bus ≡ sort.Term → ⊥
           distinct e = cc
 
+  pub goals_within : w.goals ≤ length ss
+  goals_within = omega (arith, sorts.len, same_things)
+
   pub decided : ((k : ℕ) → Contains bits k → get_or slice k sort.Term ≡ sort.Bus → ⊥) → Decides w (record { variables = w.variables; sorts = drop w.goals ss; goals = take w.goals ss })
   decided none = record {
     variables = refl;

@@ -1,5 +1,6 @@
 -- What a walk that is over decides.
-use Rattle.std.specs.Prelude.{◌≡◌, ℕ, ◌+◌, ◌<◌, ◌⊎◌, ◌++◌, Contains, length, get_or}
+use Rattle.std.specs.Prelude.{◌≡◌, ℕ, ◌+◌, ◌<◌, ◌⊎◌, ◌++◌, List, Contains, length, take, drop, get_or}
+use Rattle.cb_model.specs.declared.Sort.{Sort}
 use Rattle.cb_model.specs.declared.Sort.TheVariants as sort
 use Rattle.cb_marks.specs.Marks.{HasSort, IsWithin, AreSorts}
 use Rattle.cb_marks.specs.declared.Stop.{Stop}
@@ -12,6 +13,10 @@ use Rattle.cb_marking.specs.Marking.{Sorted}
 pub record IsKept (w : Walk) : Type 0 where
   pub links : IsWithin w.links (w.goals + length w.variables)
   pub bits : (k : ℕ) → Contains w.bits k → k < w.goals
+
+-- the variables that were met, with these sorts of the goals and behind them of the variables
+abbrev pub sorted_by : Walk → List Sort → Sorted
+sorted_by w ss = record { variables = w.variables; sorts = drop w.goals ss; goals = take w.goals ss }
 
 -- each goal and each variable has its one sort, and no equation with a side 0 or 1 is of sort `bus`
 pub record Decides (w : Walk) (m : Sorted) : Type 0 where

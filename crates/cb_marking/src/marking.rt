@@ -1,13 +1,13 @@
 //! The sorts of a rule or query.
 
-ghost use Rattle.std.specs.Prelude.{◌≡◌, ◌&&◌, ◌<◌, ℕ, true, map, length, get_or, Contains, MatchBool, MatchResult};
+ghost use Rattle.std.specs.Prelude.{◌≡◌, ◌&&◌, ◌<◌, ◌≤◌, ℕ, true, map, length, get_or, Contains, MatchBool, MatchResult};
 ghost use Rattle.std.specs.List.{list_all};
 ghost use Rattle.cb_model.specs.declared.Sort.TheVariants as sort;
 ghost use Rattle.cb_model.specs.Forms.{form_of, goal_form};
 ghost use Rattle.cb_model.specs.Written.{is_name, is_written, goal_written};
 ghost use Rattle.cb_model.specs.Loading.{body_of, query_body};
 ghost use Rattle.cb_marking.specs.Marking.{IsMarking, Refuses};
-ghost use Rattle.cb_marking.specs.Kept.{IsKept, Decides, Undecided};
+ghost use Rattle.cb_marking.specs.Kept.{IsKept, sorted_by, Decides, Undecided};
 
 use crate::walk::Walk;
 use cb_directives::Declarations;
@@ -85,30 +85,50 @@ fn is_bus(given: Sort) -> bool
 }
 
 impl<'s> Walk<'s> {
+    /// The sorts of the goals and behind them of the variables.
+    fn sorts(&self, alloc: Global) -> Result<Items<Sort>, Stop>
+        requires { IsKept self.now }
+        ensures { MatchResult result (λ ss. (self.now.goals ≤ length ss) × Decides self.now (sorted_by self.now ss)) (Undecided self.now) }
+    {
+        let Some(things) = self.goals.checked_add(self.variables.len()) else {
+            return Err(Stop::Memory);
+        };
+        let sorts = self.links.sorts(alloc, things)?;
+        if none_is_bus(sorts.as_slice(), self.bits.as_slice()) {
+            Ok(sorts)
+        } else {
+            drop(sorts);
+            Err(Stop::Clash)
+        }
+    }
+
     /// The sorts of what was met.
     fn marking(self, alloc: Global) -> Result<Marking<'s>, Stop>
         requires { IsKept self }
         ensures { MatchResult result (Decides self.entry) (Undecided self.entry) }
     {
-        let Walk {
-            goals,
-            variables,
-            own: _,
-            links,
-            bits,
-        } = self;
-        let Some(things) = goals.checked_add(variables.len()) else {
-            return Err(Stop::Memory);
-        };
-        let sorts = links.sorts(alloc, things)?;
-        if !none_is_bus(sorts.as_slice(), bits.as_slice()) {
-            return Err(Stop::Clash);
+        match self.sorts(alloc) {
+            Ok(sorts) => {
+                let Walk {
+                    goals,
+                    variables,
+                    own: _,
+                    links,
+                    bits,
+                } = self;
+                drop(links);
+                drop(bits);
+                Ok(Marking {
+                    variables,
+                    goals,
+                    sorts,
+                })
+            }
+            Err(stop) => {
+                drop(self);
+                Err(stop)
+            }
         }
-        Ok(Marking {
-            variables,
-            goals,
-            sorts,
-        })
     }
 }
 
@@ -125,9 +145,20 @@ pub fn mark_rule<'s>(
 {
     declared.counted();
     let mut walk = Walk::new(alloc, body.len());
-    walk.call(declared, head)?;
-    walk.goals(declared, body)?;
-    walk.marking(alloc)
+    match walk.call(declared, head) {
+        Ok(()) => {}
+        Err(stop) => {
+            drop(walk);
+            return Err(stop);
+        }
+    }
+    match walk.goals(declared, body) {
+        Ok(()) => walk.marking(alloc),
+        Err(stop) => {
+            drop(walk);
+            Err(stop)
+        }
+    }
 }
 
 /// The sorts of a query. `Clash` means that one thing has two sorts, or that a term stands at a place of another sort.
@@ -141,6 +172,11 @@ pub fn mark_query<'s>(
 {
     declared.counted();
     let mut walk = Walk::new(alloc, goals.len());
-    walk.goals(declared, goals)?;
-    walk.marking(alloc)
+    match walk.goals(declared, goals) {
+        Ok(()) => walk.marking(alloc),
+        Err(stop) => {
+            drop(walk);
+            Err(stop)
+        }
+    }
 }

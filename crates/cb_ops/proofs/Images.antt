@@ -1,6 +1,7 @@
 -- The node that replaces a level, in a list whose levels rise.
-use Rattle.std.proofs.Common.{◌≡◌, ℕ, zero, suc, ◌+◌, ◌<◌, ◌≤◌, Bool, true, false, ltb, List, [], ◌∷◌, map, length, get_or, nat_eq, Option, None, Some, if◌then◌else◌, refl, sym, ap, ◌∙◌, inl, inr, arith}
+use Rattle.std.proofs.Common.{◌≡◌, ℕ, zero, suc, ◌+◌, ◌<◌, ◌≤◌, Bool, true, false, ltb, List, [], ◌∷◌, map, length, get_or, slice_get, nat_eq, ◌-◌, Option, None, Some, if◌then◌else◌, refl, sym, ap, ◌∙◌, inl, inr, arith}
 use Rattle.std.proofs.lemmas.Bool.{cases_lt, eq-eqb, ne_eqb, ltb-true, ltb-false}
+use Rattle.std.proofs.lemmas.Option.{same_Some, slice_get_within, slice_get-get_or}
 use Rattle.std.proofs.lemmas.List.{length-map}
 use Rattle.std.proofs.lemmas.List.Kept.{AllPairs-from_increasing}
 use Rattle.std.specs.List.{AllPairs}
@@ -45,6 +46,17 @@ image-none : (list : Images) (level : ℕ) (d : ℕ × Node) → ((k : ℕ) → 
 image-none [] level d none = refl
 image-none (p ∷ ps) level d none =
     ap (λ b. if b then Some p.1 else image_of ps level) (ne_eqb level p.0 (λ q. none 0 (omega arith) (sym q))) ∙ image-none ps level d (λ k h. none (suc k) (omega arith))
+
+-- no level behind the last one is replaced
+pub behind-none : (list : Images) → IsStrictlyIncreasing (map (λ p. p.0) list) → (x : ℕ × Node) (level : ℕ) → slice_get list (length list - 1) ≡ Some x → x.0 < level → (l : ℕ) → level ≤ l → image_of list l ≡ None
+behind-none list rise x level e lt l le =
+    let within : length list - 1 < length list = slice_get_within list (length list - 1) x e in
+    let last : get_or list (length list - 1) x ≡ x = same_Some _ _ (sym (slice_get-get_or list (length list - 1) x within) ∙ e) in
+    let top : (get_or list (length list - 1) x).0 ≡ x.0 = ap (λ y. y.0) last in
+    image-none list l x (λ k q same. elim (cases_lt k (length list - 1)) [
+      | inl less ↦ let s = rising list rise k (length list - 1) x less within in omega arith
+      | inr more ↦ let i : k ≡ length list - 1 = omega arith in let z : (get_or list k x).0 ≡ (get_or list (length list - 1) x).0 = ap (λ m. (get_or list m x).0) i in omega arith
+    ])
 
 module _ (list : Images) (rise : IsStrictlyIncreasing (map (λ p. p.0) list)) (i level : ℕ) (point : IsPartitionPoint (λ p. ltb p.0 level ≡ true) (λ p. ltb p.0 level ≡ false) list i) where
   below : (k : ℕ) (d : ℕ × Node) → k < i → (get_or list k d).0 < level

@@ -11,7 +11,7 @@ use Rattle.cb_dd.specs.Diagram.{Store, IsNode, IsDiagram, IsChild, HasParts, fun
 use Rattle.cb_dd.proofs.Diagrams.{function_of-put, level_of-zero}
 use Rattle.std.proofs.lemmas.Nat.{pow_pos}
 use Rattle.cb_ops.specs.Ops.{Agree, DependsOn, StandsFor, IsCofactor, Room, Grows}
-use Rattle.cb_ops.specs.Done.{node_eq, IsRestricted, AllRestricted}
+use Rattle.cb_ops.specs.Done.{node_eq}
 use Rattle.cb_ops.proofs.Ite.{choose, put-same, put-other, essential, cofactor-self, grown-node, grown-function, grown-depends, room-low, room-high}
 use Rattle.cb_ops.proofs.Connectives.{depends-zero, room-of}
 
@@ -37,87 +37,9 @@ above-of ts is r l w small free = elim (cases_lt l (level_of ts r)) [
   | inr ge ↦ absurd (essential ts is r (level_of ts r) w refl (omega arith) (free (level_of ts r) ge))
 ]
 
--- the answer for a child is a child
-pub restricted-child : (s t : Store) → Grows s t → IsDiagram s.triples → IsDiagram t.triples → (n r at level : ℕ) (bit : Bool) → IsNode s.triples n → at < level_of s.triples n → at < level → at < 2 ^ 32 → IsNode t.triples r
-    → StandsFor t.triples r (λ a. function_of s.triples n (put level bit a)) → IsChild t.triples at r
-restricted-child s t g is it n r at level bit w below lower small wr stands = record {
-  node = wr;
-  below = above-of t.triples it r at wr small (λ k h a b.
-      let ne : k ≡ level → ⊥ = λ (e : k ≡ level). omega arith in
-      let under : k < level_of s.triples n = omega arith in
-      stands.at (put k b a) ∙ ap (function_of s.triples n) (put-swap k level b bit a ne) ∙ function_of-put s.triples is n w k under (put level bit a) b ∙ sym (stands.at a));
-}
-
 -- nothing is to be done below the level
 pub restricted-self : (ts : List Triple) → IsDiagram ts → (n level : ℕ) (bit : Bool) → IsNode ts n → level < level_of ts n → StandsFor ts n (λ a. function_of ts n (put level bit a))
 restricted-self ts is n level bit w below = record { at = λ a. sym (function_of-put ts is n w level below a bit) }
-
-module _ (s t u v : Store) (st : Grows s t) (tu : Grows t u) (f level at : ℕ) (bit : Bool) (lo hi low high : ℕ) (wf : IsNode s.triples f) (parts : HasParts s.triples f at lo hi) (lower : at < level) where
-  pub restricted-step : (r : ℕ) → IsNode t.triples low → StandsFor t.triples low (λ a. function_of s.triples lo (put level bit a)) → StandsFor u.triples high (λ a. function_of t.triples hi (put level bit a))
-      → ((a : Bits) → function_of v.triples r a ≡ (if a at then function_of u.triples high a else function_of u.triples low a)) → StandsFor v.triples r (λ a. function_of s.triples f (put level bit a))
-  restricted-step r wl first second made = record {
-    at = λ a.
-        let ne : at ≡ level → ⊥ = λ (e : at ≡ level). omega arith in
-        made a
-        ∙ choose (a at) _ _ _ _ (second.at a ∙ grown-function s t st hi parts.hi_node (put level bit a)) (grown-function t u tu low wl a ∙ first.at a)
-        ∙ ap (λ c. if c then function_of s.triples hi (put level bit a) else function_of s.triples lo (put level bit a)) (sym (put-other a level bit at ne))
-        ∙ sym (parts.function (put level bit a));
-  }
-
-  module _ (is : IsDiagram s.triples) (first : Room (lo ∷ []) 1 s t) where
-    zero-node : IsNode s.triples 0
-    zero-node = omega arith
-
-    zero-cofactor : (x : Bool) → IsCofactor s.triples 0 at x 0
-    zero-cofactor x = cofactor-self s.triples is 0 at x zero-node (let z = level_of-zero s.triples in let m = parts.small in omega arith)
-
-    low-cofactor : IsCofactor s.triples f at false lo
-    low-cofactor = record { node = parts.lo_node; above = parts.lo_below; function = parts.lo_function }
-
-    high-cofactor : IsCofactor s.triples f at true hi
-    high-cofactor = record { node = parts.hi_node; above = parts.hi_below; function = parts.hi_function }
-
-    wide : (x y : Store) (n : ℕ) → Room (n ∷ []) 1 x y → Room (n ∷ 0 ∷ 0 ∷ []) 1 x y
-    wide x y n = room-of _ _ 1 x y (λ ls d. (d.0, tt))
-
-    narrow : (x y : Store) (n : ℕ) → Room (n ∷ 0 ∷ 0 ∷ []) 1 x y → Room (n ∷ []) 1 x y
-    narrow x y n = room-of _ _ 1 x y (λ ls d. (d.0, (depends-zero x.triples ls, (depends-zero x.triples ls, tt))))
-
-    pub restricted-low : Room (f ∷ []) 1 s t
-    restricted-low = narrow s t f (room-low s t u v st tu f 0 0 wf zero-node zero-node at lo 0 0 hi 0 0 0 0 low-cofactor (zero-cofactor false) (zero-cofactor false) high-cofactor (zero-cofactor true) (zero-cofactor true) is parts.small (inl (sym parts.at)) (wide s t lo first))
-
-    pub restricted-high : Room (hi ∷ []) 1 t u → length v.triples ≤ length u.triples + 1 → Room (f ∷ []) 1 s v
-    restricted-high second last = narrow s v f (room-high s t u v st tu f 0 0 wf zero-node zero-node at lo 0 0 hi 0 0 0 0 low-cofactor (zero-cofactor false) (zero-cofactor false) high-cofactor (zero-cofactor true) (zero-cofactor true) is parts.small (inl (sym parts.at)) (wide s t lo first) (wide t u hi second) last)
-
--- an answer in the store that it was made in
-pub restricted-kept : (s v : Store) → Grows s v → (f r level : ℕ) (bit : Bool) → IsNode s.triples f → IsNode v.triples r → StandsFor v.triples r (λ a. function_of s.triples f (put level bit a)) → IsRestricted v.triples level bit f r
-restricted-kept s v g f r level bit wf wr stands = record {
-  node = grown-node s v g f wf;
-  answer = wr;
-  is = record { at = λ a. stands.at a ∙ sym (grown-function s v g f wf (put level bit a)) };
-}
-
--- what was remembered stays right when nodes are added
-pub restricted-grows : {S : Type 0} (done : IndexMap Node Node S) (s t : Store) (level : ℕ) (bit : Bool) → Grows s t → AllRestricted done s.triples level bit → AllRestricted done t.triples level bit
-restricted-grows done s t level bit g old = record {
-  right = λ n r at.
-      let w = old.right n r at in
-      record {
-        node = grown-node s t g n.0 w.node;
-        answer = grown-node s t g r.0 w.answer;
-        is = record { at = λ a. grown-function s t g r.0 w.answer a ∙ w.is.at a ∙ sym (grown-function s t g n.0 w.node (put level bit a)) };
-      };
-}
-
--- one more answer
-pub restricted-more : {S : Type 0} (old new : IndexMap Node Node S) (ts : List Triple) (level : ℕ) (bit : Bool) (n r : Node) → AllRestricted old ts level bit → IsRestricted ts level bit n.0 r.0
-    → ((q v : Node) → get node_eq new q ≡ Some v → ((q ≡ n) × (v ≡ r)) ⊎ (get node_eq old q ≡ Some v)) → AllRestricted new ts level bit
-restricted-more old new ts level bit n r all here says = record {
-  right = λ q v at. elim (says q v at) [
-    | inl same ↦ subst (λ x. IsRestricted ts level bit x.0 v.0) (sym same.0) (subst (λ y. IsRestricted ts level bit n.0 y.0) (sym same.1) here)
-    | inr there ↦ all.right q v there
-  ];
-}
 
 pub node_eq-same : (x y : Node) → node_eq x y ≡ true → x ≡ y
 node_eq-same x y e = λ i. record { 0 = eqb-true _ _ e i }
@@ -134,7 +56,7 @@ remembered old new n r says q v at = elim (cases_Bool (node_eq n q)) [
 pub remembered-same : {S : Type 0} (old new : IndexMap Node Node S) (n r : Node) → new.entries ≡ old.entries → (q v : Node) → get node_eq new q ≡ Some v → ((q ≡ n) × (v ≡ r)) ⊎ (get node_eq old q ≡ Some v)
 remembered-same old new n r same q v at = inr (ap (lookup (node_eq q)) (sym same) ∙ at)
 
-agree-both : (k : ℕ) (ls : List ℕ) (a b : Bits) (x : Bool) → Agree ls a b → Agree ls (put k x a) (put k x b)
+pub agree-both : (k : ℕ) (ls : List ℕ) (a b : Bits) (x : Bool) → Agree ls a b → Agree ls (put k x a) (put k x b)
 agree-both k [] a b x h = tt
 agree-both k (l ∷ ls) a b x h = (
   elim (cases_eq l k) [

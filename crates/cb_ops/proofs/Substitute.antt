@@ -1,5 +1,5 @@
 -- The laws behind `substitute`.
-use Rattle.std.proofs.Common.{◌≡◌, ℕ, ◌+◌, ◌*◌, ◌<◌, ◌≤◌, ◌^◌, Bool, true, false, ◌||◌, List, [], ◌∷◌, length, nat_eq, Option, None, Some, if◌then◌else◌, refl, sym, ap, subst, ◌∙◌, ◌⊎◌, inl, inr, arith}
+use Rattle.std.proofs.Common.{◌≡◌, ℕ, zero, suc, ◌+◌, ◌*◌, ◌<◌, ◌≤◌, ◌^◌, Bool, true, false, ◌||◌, List, [], ◌∷◌, length, nat_eq, Option, None, Some, if◌then◌else◌, refl, sym, ap, subst, ◌∙◌, ◌⊎◌, inl, inr, arith}
 use Rattle.std.proofs.lemmas.Bool.{cases_Bool, eq-eqb}
 use Rattle.std.proofs.lemmas.Option.{same_Some}
 use Rattle.std.proofs.lemmas.Nat.{pow_pos, pow-add}
@@ -11,12 +11,12 @@ use Rattle.indexmap.specs.IndexMap.{IndexMap, get}
 use Rattle.cb_model.specs.Bits.{Bits}
 use Rattle.cb_dd.specs.declared.Triple.{Triple}
 use Rattle.cb_dd.specs.declared.Node.{Node}
-use Rattle.cb_dd.specs.Diagram.{Store, IsNode, IsDiagram, HasParts, function_of}
-use Rattle.cb_dd.proofs.Diagrams.{function_of-zero, function_of-one}
+use Rattle.cb_dd.specs.Diagram.{Store, IsNode, IsDiagram, HasParts, function_of, level_of}
+use Rattle.cb_dd.proofs.Diagrams.{function_of-zero, function_of-one, function_of-node, level_of-node, node-within, kind_of, bottom, top, inner}
 use Rattle.cb_ops.specs.Ops.{Agree, DependsOn, StandsFor, IsIte, IsCofactor, Room, Grows}
 use Rattle.cb_ops.specs.Done.{node_eq}
 use Rattle.cb_ops.specs.Support.{IsListed}
-use Rattle.cb_ops.specs.Substitute.{Images, image_of, substituted, AreNodes, Spreads, SubstituteRoom, IsSubstituted, AllSubstituted}
+use Rattle.cb_ops.specs.Substitute.{Images, image_of, substituted, AreNodes, Spreads, SubstituteRoom, IsSubstituted, AllSubstituted, IsJoined, JoinRoom}
 use Rattle.cb_ops.proofs.Ite.{choose-all, without, without-lt, cofactor-depends, listed, literal-is, grown-node, grown-function, grown-depends, Grows-then}
 use Rattle.cb_ops.proofs.Gather.{agree-at}
 
@@ -92,7 +92,7 @@ pub image-bit : (s t : Store) (list : Images) (l r : ℕ) → image_of list l �
 image-bit s t list l r e made = record { at = λ a. made a ∙ literal-is s.triples (a l) a ∙ sym (at-none s.triples list a l e) }
 
 -- a node with its levels replaced depends on the second levels alone
-replaced-depends : (s t : Store) (list : Images) (n r : ℕ) (first second : List ℕ) → Spreads s.triples n list first second → StandsFor t.triples r (λ a. function_of s.triples n (substituted s.triples list a)) → DependsOn t.triples r second
+pub replaced-depends : (s t : Store) (list : Images) (n r : ℕ) (first second : List ℕ) → Spreads s.triples n list first second → StandsFor t.triples r (λ a. function_of s.triples n (substituted s.triples list a)) → DependsOn t.triples r second
 replaced-depends s t list n r first second sp is = record {
   agrees = λ a b h.
       is.at a
@@ -103,14 +103,14 @@ replaced-depends s t list n r first second sp is = record {
       ∙ sym (is.at b);
 }
 
-spreads-grown : (s t : Store) → Grows s t → (list : Images) (n : ℕ) (first second : List ℕ) → IsNode s.triples n → AreNodes s.triples list → Spreads s.triples n list first second → Spreads t.triples n list first second
+pub spreads-grown : (s t : Store) → Grows s t → (list : Images) (n : ℕ) (first second : List ℕ) → IsNode s.triples n → AreNodes s.triples list → Spreads s.triples n list first second → Spreads t.triples n list first second
 spreads-grown s t g list n first second w ws sp = record {
   depends = grown-depends s t g n first w sp.depends;
   covers = sp.covers;
   images = λ l m e. grown-depends s t g m.0 second (image-node s.triples list l m ws e) (sp.images l m e);
 }
 
-spreads-side : (ts : List Triple) (list : Images) (f at : ℕ) (bit : Bool) (r : ℕ) (first second : List ℕ) → IsCofactor ts f at bit r → Spreads ts f list first second → Spreads ts r list (without at first) second
+pub spreads-side : (ts : List Triple) (list : Images) (f at : ℕ) (bit : Bool) (r : ℕ) (first second : List ℕ) → IsCofactor ts f at bit r → Spreads ts f list first second → Spreads ts r list (without at first) second
 spreads-side ts list f at bit r first second c sp = record {
   depends = cofactor-depends ts f at bit r first c sp.depends;
   covers = λ l there e. sp.covers l (without-listed at first l there) e;
@@ -125,115 +125,61 @@ substitute-none n list s = record {
       omega arith;
 }
 
-module _ (s t u x v : Store) (st : Grows s t) (tu : Grows t u) (ux : Grows u x) (list : Images) (ws : AreNodes s.triples list) (f at lo hi low high image : ℕ) (wf : IsNode s.triples f) (parts : HasParts s.triples f at lo hi) where
-  su : Grows s u
-  su = Grows-then s t u st tu
-
-  side : (n : ℕ) → IsNode s.triples n → (a : Bits) → function_of t.triples n (substituted t.triples list a) ≡ function_of s.triples n (substituted s.triples list a)
-  side n w a = grown-function s t st n w (substituted t.triples list a) ∙ ap (function_of s.triples n) (substituted-grown s t st list ws a)
-
-  module _ (wl : IsNode t.triples low) (wh : IsNode u.triples high) (is_low : StandsFor t.triples low (λ a. function_of s.triples lo (substituted s.triples list a))) (is_high : StandsFor u.triples high (λ a. function_of t.triples hi (substituted t.triples list a)))
-      (is_image : StandsFor x.triples image (λ a. substituted u.triples list a at)) where
-    pub substitute-step : (r : ℕ) → IsIte x.triples v.triples image high low r → StandsFor v.triples r (λ a. function_of s.triples f (substituted s.triples list a))
-    substitute-step r is = record {
-      at = λ a.
-          is.at a
-          ∙ choose-all _ _ _ _ _ _
-          (is_image.at a ∙ ap (λ (b : Bits). b at) (substituted-grown s u su list ws a))
-          (grown-function u x ux high wh a ∙ is_high.at a ∙ side hi parts.hi_node a)
-          (grown-function t x (Grows-then t u x tu ux) low wl a ∙ is_low.at a)
-          ∙ sym (parts.function (substituted s.triples list a));
-    }
-
-    image-depends : (first second : List ℕ) → IsListed first at → Spreads s.triples f list first second → DependsOn x.triples image second
-    image-depends first second there sp = record {
-      agrees = λ a b h.
-          is_image.at a ∙ ap (λ (c : Bits). c at) (substituted-grown s u su list ws a)
-          ∙ elim (cases-image (image_of list at)) [
-            | inl m ↦ at-some s.triples list a at m.0 m.1 ∙ (sp.images at m.0 m.1).agrees a b h ∙ sym (at-some s.triples list b at m.0 m.1)
-            | inr e ↦ at-none s.triples list a at e ∙ agree-at second a b h at (sp.covers at there e) ∙ sym (at-none s.triples list b at e)
-          ]
-          ∙ sym (is_image.at b ∙ ap (λ (c : Bits). c at) (substituted-grown s u su list ws b));
-    }
-
-    module _ (is : IsDiagram s.triples) (first_room : SubstituteRoom lo list s t) (second_room : SubstituteRoom hi list t u) where
-      pub substitute-room : length x.triples ≤ length u.triples + 1 → Room (image ∷ high ∷ low ∷ []) 1 x v → SubstituteRoom f list s v
-      substitute-room one last = record {
-        most = λ first second sp.
-            let there : IsListed first at = ap (λ k. list_any (nat_eq k) first) (sym parts.at) ∙ listed s.triples is f first wf (let p = parts.at in let m = parts.small in omega arith) sp.depends in
-            let low_side : IsCofactor s.triples f at false lo = record { node = parts.lo_node; above = parts.lo_below; function = parts.lo_function } in
-            let high_side : IsCofactor s.triples f at true hi = record { node = parts.hi_node; above = parts.hi_below; function = parts.hi_function } in
-            let sl = spreads-side s.triples list f at false lo first second low_side sp in
-            let sh = spreads-grown s t st list hi (without at first) second parts.hi_node ws (spreads-side s.triples list f at true hi first second high_side sp) in
-            let m = first_room.most (without at first) second sl in
-            let n = second_room.most (without at first) second sh in
-            let o = last.most second (
-              image-depends first second there sp,
-              (
-                grown-depends u x ux high second wh (replaced-depends t u list hi high (without at first) second sh is_high),
-                (grown-depends t x (Grows-then t u x tu ux) low second wl (replaced-depends s t list lo low (without at first) second sl is_low), tt),
-              ),
-            ) in
-            let d : 2 ^ length second * (2 ^ length (without at first) + 2 ^ length (without at first)) ≤ 2 ^ length second * 2 ^ length first = mul-le-mul_left (2 ^ length second) (twice at first there) in
-            omega arith;
-      }
-
-  module _ (is : IsDiagram s.triples) (first_room : SubstituteRoom lo list s t) where
-    sides : (first second : List ℕ) → Spreads s.triples f list first second → IsListed first at × Spreads s.triples lo list (without at first) second × Spreads t.triples hi list (without at first) second
-    sides first second sp = (
-      ap (λ k. list_any (nat_eq k) first) (sym parts.at) ∙ listed s.triples is f first wf (let p = parts.at in let m = parts.small in omega arith) sp.depends,
-      spreads-side s.triples list f at false lo first second (record { node = parts.lo_node; above = parts.lo_below; function = parts.lo_function }) sp,
-      spreads-grown s t st list hi (without at first) second parts.hi_node ws (spreads-side s.triples list f at true hi first second (record { node = parts.hi_node; above = parts.hi_below; function = parts.hi_function }) sp),
-    )
-
-    pub substitute-low : SubstituteRoom f list s t
-    substitute-low = record {
-      most = λ first second sp.
-          let h = sides first second sp in
-          let m = first_room.most (without at first) second h.1 in
-          let d : 2 ^ length second * (2 ^ length (without at first) + 2 ^ length (without at first)) ≤ 2 ^ length second * 2 ^ length first = mul-le-mul_left (2 ^ length second) (twice at first h.0) in
-          omega arith;
-    }
-
-    -- one more node, for the bit itself
-    pub substitute-high : SubstituteRoom hi list t u → length x.triples ≤ length u.triples + 1 → SubstituteRoom f list s x
-    substitute-high second_room one = record {
-      most = λ first second sp.
-          let h = sides first second sp in
-          let m = first_room.most (without at first) second h.1 in
-          let n = second_room.most (without at first) second h.2 in
-          let p : 0 < 2 ^ length second = pow_pos (length second) in
-          let d : 2 ^ length second * (2 ^ length (without at first) + 2 ^ length (without at first)) ≤ 2 ^ length second * 2 ^ length first = mul-le-mul_left (2 ^ length second) (twice at first h.0) in
-          omega arith;
-    }
-
--- an answer in the store that it was made in
-pub substitute-kept : (s v : Store) → Grows s v → (list : Images) → AreNodes s.triples list → (f r : ℕ) → IsNode s.triples f → IsNode v.triples r → StandsFor v.triples r (λ a. function_of s.triples f (substituted s.triples list a)) → IsSubstituted v.triples list f r
-substitute-kept s v g list ws f r wf wr is = record {
-  node = grown-node s v g f wf;
-  answer = wr;
-  is = record { at = λ a. is.at a ∙ sym (grown-function s v g f wf (substituted v.triples list a) ∙ ap (function_of s.triples f) (substituted-grown s v g list ws a)) };
+-- ---- the node of two answers
+-- a node with the bit itself as its choice
+pub own-joined : (s t v : Store) → Grows s t → (level own low high r : ℕ) → IsNode s.triples low → IsNode s.triples high → ((a : Bits) → function_of t.triples own a ≡ (if a level then function_of s.triples 1 a else function_of s.triples 0 a)) → IsIte t.triples v.triples own high low r
+    → IsJoined s.triples v.triples level low high [] r
+own-joined s t v st level own low high r wl wh made is = record {
+  at = λ a. is.at a ∙ choose-all _ _ _ _ _ _ (made a ∙ literal-is s.triples (a level) a) (grown-function s t st high wh a) (grown-function s t st low wl a);
 }
 
-pub substitute-grows : {S : Type 0} (done : IndexMap Node Node S) (s t : Store) (list : Images) → Grows s t → AreNodes s.triples list → AllSubstituted done s.triples list → AllSubstituted done t.triples list
-substitute-grows done s t list g ws old = record {
-  right = λ n r at.
-      let w = old.right n r at in
-      record {
-        node = grown-node s t g n.0 w.node;
-        answer = grown-node s t g r.0 w.answer;
-        is = record { at = λ a. grown-function s t g r.0 w.answer a ∙ w.is.at a ∙ sym (grown-function s t g n.0 w.node (substituted t.triples list a) ∙ ap (function_of s.triples n.0) (substituted-grown s t g list ws a)) };
-      };
+pub own-room : (s t v : Store) → Grows s t → (level own low high : ℕ) → IsNode s.triples low → IsNode s.triples high → ((a : Bits) → function_of t.triples own a ≡ (if a level then function_of s.triples 1 a else function_of s.triples 0 a))
+    → length t.triples ≤ length s.triples + 1 → Room (own ∷ high ∷ low ∷ []) 1 t v → JoinRoom level low high [] s v
+own-room s t v st level own low high wl wh made one last = record {
+  most = λ ls there images dl dh.
+      let own_depends : DependsOn t.triples own ls = record { agrees = λ a b h. made a ∙ literal-is s.triples (a level) a ∙ agree-at ls a b h level (there refl) ∙ sym (made b ∙ literal-is s.triples (b level) b) } in
+      let m = last.most ls (own_depends, (grown-depends s t st high ls wh dh, (grown-depends s t st low ls wl dl, tt))) in
+      omega (arith, m, one);
 }
 
-pub substitute-more : {S : Type 0} (old new : IndexMap Node Node S) (ts : List Triple) (list : Images) (n r : Node) → AllSubstituted old ts list → IsSubstituted ts list n.0 r.0
-    → ((q v : Node) → get node_eq new q ≡ Some v → ((q ≡ n) × (v ≡ r)) ⊎ (get node_eq old q ≡ Some v)) → AllSubstituted new ts list
-substitute-more old new ts list n r all here says = record {
-  right = λ q v at. elim (says q v at) [
-    | inl same ↦ subst (λ x. IsSubstituted ts list x.0 v.0) (sym same.0) (subst (λ y. IsSubstituted ts list n.0 y.0) (sym same.1) here)
-    | inr there ↦ all.right q v there
-  ];
-}
+pub one-room : (s v : Store) (level low high : ℕ) (list : Images) → length v.triples ≤ length s.triples + 1 → JoinRoom level low high list s v
+one-room s v level low high list one = record { most = λ ls there images dl dh. let p : 0 < 2 ^ length ls = pow_pos (length ls) in omega (arith, one, p) }
+
+-- where the level isn't replaced
+pub unreplaced : (old new : List Triple) (level low high : ℕ) (list : Images) (r : ℕ) → image_of list level ≡ None → IsJoined old new level low high [] r → IsJoined old new level low high list r
+unreplaced old new level low high list r e is = record { at = λ a. is.at a ∙ choose-all _ _ _ _ _ _ (sym (at-none old list a level e)) refl refl }
+
+pub unreplaced-room : (s v : Store) (level low high : ℕ) (list : Images) → image_of list level ≡ None → JoinRoom level low high [] s v → JoinRoom level low high list s v
+unreplaced-room s v level low high list e j = record { most = λ ls there images dl dh. j.most ls (λ e2. there e) (λ m f. absurd (let d : None ≡ Some m = f in cc)) dl dh }
+
+-- and where it is
+pub image-joined : (s v : Store) (level choice low high : ℕ) (list : Images) (r : ℕ) (n : Node) → image_of list level ≡ Some n → n.0 ≡ choice → IsIte s.triples v.triples choice high low r → IsJoined s.triples v.triples level low high list r
+image-joined s v level choice low high list r n e same is = record { at = λ a. is.at a ∙ choose-all _ _ _ _ _ _ (ap (λ m. function_of s.triples m a) (sym same) ∙ sym (at-some s.triples list a level n e)) refl refl }
+
+pub image-room : (s v : Store) (level low high : ℕ) (list : Images) (n : Node) → image_of list level ≡ Some n → Room (n.0 ∷ high ∷ low ∷ []) 1 s v → JoinRoom level low high list s v
+image-room s v level low high list n e r = record { most = λ ls there images dl dh. let m = r.most ls (images n e, (dh, (dl, tt))) in omega (arith, m) }
+
+-- ---- levels that aren't replaced
+-- the bits before a node's level don't matter
+behind : (ts : List Triple) → IsDiagram ts → (fuel n : ℕ) → n < fuel → IsNode ts n → (a b : Bits) → ((l : ℕ) → level_of ts n ≤ l → a l ≡ b l) → function_of ts n a ≡ function_of ts n b
+behind ts is zero n h w a b same = absurd (omega arith)
+behind ts is (suc fuel) n h w a b same = elim (kind_of ts n w) [
+  | bottom e ↦ rw e (function_of-zero ts a ∙ sym (function_of-zero ts b))
+  | top e ↦ rw e (function_of-one ts a ∙ sym (function_of-one ts b))
+  | inner k t e at ↦
+      let o = is.ordered k t at in
+      let v = node-within ts is k t at in
+      let lev : level_of ts n ≡ t.level = ap (level_of ts) e ∙ level_of-node ts k t at in
+      let lo_below = o.lo_below in
+      let hi_below = o.hi_below in
+      let here : a t.level ≡ b t.level = same t.level (omega arith) in
+      let high : function_of ts t.hi a ≡ function_of ts t.hi b = behind ts is fuel t.hi (omega (arith, o.hi)) v.2 a b (λ l le. same l (omega arith)) in
+      let low : function_of ts t.lo a ≡ function_of ts t.lo b = behind ts is fuel t.lo (omega (arith, o.lo)) v.1 a b (λ l le. same l (omega arith)) in
+      rw e (function_of-node ts k t at o.lo o.hi a ∙ choose-all _ _ _ _ _ _ here high low ∙ sym (function_of-node ts k t at o.lo o.hi b))
+]
+
+pub substitute-behind : (ts : List Triple) → IsDiagram ts → (list : Images) (n level : ℕ) → IsNode ts n → level_of ts n ≡ level → ((l : ℕ) → level ≤ l → image_of list l ≡ None) → StandsFor ts n (λ a. function_of ts n (substituted ts list a))
+substitute-behind ts is list n level w e none = record { at = λ a. behind ts is (suc n) n (omega arith) w a (substituted ts list a) (λ l le. sym (at-none ts list a l (none l (omega arith)))) }
 
 -- a constant has no levels to replace
 pub substitute-constant : (ts : List Triple) (list : Images) (n : ℕ) → (n ≡ 0) ⊎ (n ≡ 1) → StandsFor ts n (λ a. function_of ts n (substituted ts list a))

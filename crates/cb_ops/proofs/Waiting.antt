@@ -1,6 +1,6 @@
 -- The list of waiting calls: its answers, its room, and its end.
-use Rattle.std.proofs.Common.{◌≡◌, ℕ, ◌+◌, ◌*◌, ◌-◌, ◌<◌, ◌≤◌, ◌^◌, min, Bool, true, false, List, [], ◌∷◌, ◌++◌, length, if◌then◌else◌, refl, sym, ap, subst, ◌∙◌, ◌⊎◌, inl, inr, arith, nat_eq, sum_by, rules, Result, Err}
-use Rattle.std.proofs.lemmas.Bool.{cases_Bool, true≢false}
+use Rattle.std.proofs.Common.{◌≡◌, ℕ, ◌+◌, ◌*◌, ◌-◌, ◌<◌, ◌≤◌, ◌^◌, min, Bool, true, false, List, [], ◌∷◌, ◌++◌, length, if◌then◌else◌, Option, Some, None, IfSome, refl, sym, ap, subst, ◌∙◌, ◌⊎◌, inl, inr, arith, nat_eq, sum_by, rules, Result, Err}
+use Rattle.std.proofs.lemmas.Bool.{cases_Bool, cases_lt, true≢false}
 use Rattle.std.proofs.lemmas.List.Sums.{sum_by_push}
 use Rattle.std.proofs.lemmas.Nat.{pow_pos, pow-add}
 use Rattle.std.proofs.Math.Pow.{pow_mono}
@@ -11,33 +11,64 @@ use Rattle.cb_dd.specs.declared.Node.{Node}
 use Rattle.cb_dd.specs.declared.Stop.{Stop}
 use Rattle.cb_dd.specs.declared.Stop.TheVariants.{Nodes, Memory}
 use Rattle.cb_dd.specs.Diagram.{Store, IsNode, IsDiagram, IsChild, function_of, level_of}
+use Rattle.cb_dd.proofs.Diagrams.{function_of-put}
 use Rattle.cb_ops.specs.declared.Choice.{Choice}
+use Rattle.cb_ops.specs.declared.Operation.{Operation}
+use Rattle.cb_ops.specs.declared.Operation.TheVariants.{Ite, Xor}
 use Rattle.cb_ops.specs.declared.Pending.{Pending}
 use Rattle.cb_ops.specs.declared.Left.{Left}
 use Rattle.cb_ops.specs.declared.Left.TheVariants as left
 use Rattle.cb_ops.specs.declared.Turn.{Turn}
 use Rattle.cb_ops.specs.declared.Turn.TheVariants as turn
-use Rattle.cb_ops.specs.Ops.{Grows, IsIte, IsCofactor, DependsOn, DependAll, Room, HasCause}
-use Rattle.cb_ops.specs.Waiting.{value_of, AreCalled, IsPart, IsHalf, HasLeft, Waits, IsAnswered, Asked, Resumed, bit_of, made_of, fulls_after_turn}
-use Rattle.cb_ops.proofs.Ite.{choose-all, put-id, grown-node, grown-function, grown-level, grown-child, grown-cofactor, Grows-same, Grows-then, grown-depends, ite-above, cofactor-depends, without, without-lt, listed, least-three}
+use Rattle.cb_ops.specs.Ops.{Grows, IsIte, IsXor, IsCofactor, DependsOn, DependAll, Room, HasCause}
+use Rattle.cb_ops.specs.Waiting.{combined, value_of, IsValue, AreCalled, IsPart, IsHalf, HasLeft, Waits, IsAnswered, Asked, Resumed, bit_of, made_of, fulls_after_turn}
+use Rattle.cb_ops.proofs.Ite.{put-id, essential, grown-node, grown-function, grown-level, grown-child, grown-cofactor, Grows-same, Grows-then, grown-depends, cofactor-depends, without, without-lt, listed, least-three}
+
+pub combined-all : (o : Operation) (b c x y z w : Bool) → b ≡ c → x ≡ z → y ≡ w → combined o b x y ≡ combined o c z w
+combined-all o b c x y z w p q r = λ j. combined o (p j) (q j) (r j)
+
+-- what the two operations ask for
+pub answered-ite : (ts : List Triple) (c : Choice) (o : Option Node) → c.operation ≡ Ite → IfSome o (λ r. IsNode ts r.0) → IfSome o (λ r. IsIte ts ts c.f.0 c.g.0 c.h.0 r.0) → IfSome o (λ r. IsAnswered ts c r.0)
+answered-ite ts c (Some r) e w is = record { node = w; value = λ a. is.at a ∙ sym (ap (λ o. combined o (function_of ts c.f.0 a) (function_of ts c.g.0 a) (function_of ts c.h.0 a)) e) }
+answered-ite ts c None e w is = tt
+
+pub answered-xor : (ts : List Triple) (c : Choice) (o : Option Node) → c.operation ≡ Xor → IfSome o (λ r. IsNode ts r.0) → IfSome o (λ r. IsXor ts ts c.f.0 c.g.0 r.0) → IfSome o (λ r. IsAnswered ts c r.0)
+answered-xor ts c (Some r) e w is = record { node = w; value = λ a. is.at a ∙ sym (ap (λ o. combined o (function_of ts c.f.0 a) (function_of ts c.g.0 a) (function_of ts c.h.0 a)) e) }
+answered-xor ts c None e w is = tt
+
+pub ite-of : (ts : List Triple) (c : Choice) (r : ℕ) → c.operation ≡ Ite → IsAnswered ts c r → IsIte ts ts c.f.0 c.g.0 c.h.0 r
+ite-of ts c r e is = record { at = λ a. is.value a ∙ ap (λ o. combined o (function_of ts c.f.0 a) (function_of ts c.g.0 a) (function_of ts c.h.0 a)) e }
+
+pub xor-of : (ts : List Triple) (c : Choice) (r : ℕ) → c.operation ≡ Xor → IsAnswered ts c r → IsXor ts ts c.f.0 c.g.0 r
+xor-of ts c r e is = record { at = λ a. is.value a ∙ ap (λ o. combined o (function_of ts c.f.0 a) (function_of ts c.g.0 a) (function_of ts c.h.0 a)) e }
+
+-- the level of an answer isn't below those of the call
+value-above : (ts : List Triple) → IsDiagram ts → (c : Choice) (r l : ℕ) → AreCalled ts c → IsAnswered ts c r → l < level_of ts c.f.0 → l < level_of ts c.g.0 → l < level_of ts c.h.0 → l < 2 ^ 32 → l < level_of ts r
+value-above ts is c r l w answer lf lg lh small = elim (cases_lt l (level_of ts r)) [
+  | inl lt ↦ lt
+  | inr ge ↦
+      let k : ℕ = level_of ts r in
+      absurd (essential ts is r (level_of ts r) answer.node refl (omega arith) (λ a b.
+      answer.value (put (level_of ts r) b a)
+      ∙ combined-all c.operation _ _ _ _ _ _ (function_of-put ts is c.f.0 w.f (level_of ts r) (omega arith) a b) (function_of-put ts is c.g.0 w.g (level_of ts r) (omega arith) a b) (function_of-put ts is c.h.0 w.h (level_of ts r) (omega arith) a b)
+      ∙ sym (answer.value a)))
+]
 
 -- a call has its value also after more nodes
 pub grown-value : (s t : Store) → Grows s t → (c : Choice) → AreCalled s.triples c → (a : Bits) → value_of t.triples c a ≡ value_of s.triples c a
-grown-value s t gr c w a = choose-all _ _ _ _ _ _ (grown-function s t gr c.f.0 w.f a) (grown-function s t gr c.g.0 w.g a) (grown-function s t gr c.h.0 w.h a)
+grown-value s t gr c w a = combined-all c.operation _ _ _ _ _ _ (grown-function s t gr c.f.0 w.f a) (grown-function s t gr c.g.0 w.g a) (grown-function s t gr c.h.0 w.h a)
 
 -- the node of the two answers is the answer
 pub halves-meet : (s t : Store) → Grows s t → (level : ℕ) (c : Choice) (lo hi n : ℕ) → AreCalled s.triples c → IsHalf s.triples level false c lo → IsHalf s.triples level true c hi
-    → ((a : Bits) → function_of t.triples n a ≡ (if a level then function_of s.triples hi a else function_of s.triples lo a)) → IsIte t.triples t.triples c.f.0 c.g.0 c.h.0 n
-halves-meet s t gr level c lo hi n w low high made = record {
-  at = λ a. elim (cases_Bool (a level)) [
-    | inl one ↦
-        made a ∙ ap (λ b. if b then function_of s.triples hi a else function_of s.triples lo a) one ∙ high.at a
-        ∙ ap (value_of s.triples c) (put-id a level true one) ∙ sym (grown-value s t gr c w a)
-    | inr zero ↦
-        made a ∙ ap (λ b. if b then function_of s.triples hi a else function_of s.triples lo a) zero ∙ low.at a
-        ∙ ap (value_of s.triples c) (put-id a level false zero) ∙ sym (grown-value s t gr c w a)
-  ];
-}
+    → ((a : Bits) → function_of t.triples n a ≡ (if a level then function_of s.triples hi a else function_of s.triples lo a)) → (a : Bits) → function_of t.triples n a ≡ value_of t.triples c a
+halves-meet s t gr level c lo hi n w low high made a = elim (cases_Bool (a level)) [
+  | inl one ↦
+      made a ∙ ap (λ b. if b then function_of s.triples hi a else function_of s.triples lo a) one ∙ high.at a
+      ∙ ap (value_of s.triples c) (put-id a level true one) ∙ sym (grown-value s t gr c w a)
+  | inr zero ↦
+      made a ∙ ap (λ b. if b then function_of s.triples hi a else function_of s.triples lo a) zero ∙ low.at a
+      ∙ ap (value_of s.triples c) (put-id a level false zero) ∙ sym (grown-value s t gr c w a)
+]
 
 -- what waits with its second cofactor to be asked, and what is left of it
 pub left-high : (ts : List Triple) (level : ℕ) (c d : Choice) (l : Left) → l ≡ left.High d → HasLeft ts level c l → IsPart ts level true c d
@@ -81,6 +112,7 @@ chain-called ts from (x ∷ xs) to w h = chain-called ts h.2.0 xs to (part-calle
 
 pub grown-part : (s t : Store) → Grows s t → (level : ℕ) (bit : Bool) (c d : Choice) → AreCalled s.triples c → IsPart s.triples level bit c d → IsPart t.triples level bit c d
 grown-part s t gr level bit c d w p = record {
+  operation = p.operation;
   f = grown-cofactor s t gr c.f.0 level bit d.f.0 w.f p.f;
   g = grown-cofactor s t gr c.g.0 level bit d.g.0 w.g p.g;
   h = grown-cofactor s t gr c.h.0 level bit d.h.0 w.h p.h;
@@ -99,7 +131,6 @@ grown-left s t gr level c (left.Low r) w h = grown-half s t gr level false c r.0
 grown-waits : (s t : Store) → Grows s t → (x : Pending) → Waits s.triples x → Waits t.triples x
 grown-waits s t gr x w = record {
   call = grown-called s t gr x.call w.call;
-  inner = w.inner;
   small = w.small;
   least = rw (grown-level s t gr x.call.f.0 w.call.f, grown-level s t gr x.call.g.0 w.call.g, grown-level s t gr x.call.h.0 w.call.h) w.least;
   left = grown-left s t gr x.level x.call x.left w.call w.left;
@@ -115,9 +146,11 @@ pub part-answered : (ts : List Triple) → IsDiagram ts → (x : Pending) (d : C
 part-answered ts is x d r w p e = record {
   child = record {
     node = e.node;
-    below = ite-above ts is d.f.0 d.g.0 d.h.0 r x.level p.f.node p.g.node p.h.node e.node e.ite p.f.above p.g.above p.h.above w.small;
+    below = value-above ts is d r x.level (part-called ts x.level (bit_of x.left) x.call d p) e p.f.above p.g.above p.h.above w.small;
   };
-  at = λ a. e.ite.at a ∙ choose-all _ _ _ _ _ _ (p.f.function a) (p.g.function a) (p.h.function a);
+  at = λ a.
+      e.value a ∙ ap (λ o. combined o (function_of ts d.f.0 a) (function_of ts d.g.0 a) (function_of ts d.h.0 a)) p.operation
+      ∙ combined-all x.call.operation _ _ _ _ _ _ (p.f.function a) (p.g.function a) (p.h.function a);
 }
 
 -- ---- the room
@@ -422,10 +455,10 @@ module _ (s t u : Store) (from : Choice) (xs ys zs : List Pending) (x : Pending)
         is_high level (left.Low r) e = absurd (true≢false e)
 
 -- the answer of the whole
-pub going-answer : (s t : Store) (from : Choice) (r : Node) → AreCalled s.triples from → Going s t from [] (turn.Answer r) → IsNode t.triples r.0 × IsIte s.triples t.triples from.f.0 from.g.0 from.h.0 r.0
+pub going-answer : (s t : Store) (from : Choice) (r : Node) → AreCalled s.triples from → Going s t from [] (turn.Answer r) → IsNode t.triples r.0 × IsValue s.triples t.triples from r.0
 going-answer s t from r w g =
     let e : IsAnswered t.triples from r.0 = subst (λ c. IsAnswered t.triples c r.0) g.turn.1.0 g.turn.1.1 in
-    (e.node, record { at = λ a. e.ite.at a ∙ grown-value s t g.grows from w a })
+    (e.node, record { at = λ a. e.value a ∙ grown-value s t g.grows from w a })
 
 -- the room of the whole
 pub room-of : (s t : Store) (from : Choice) → Grows s t → AreCalled s.triples from → ((ls : List ℕ) → Depends t.triples from ls → length t.triples ≤ length s.triples + asks ls) → Room (from.f.0 ∷ from.g.0 ∷ from.h.0 ∷ []) 1 s t

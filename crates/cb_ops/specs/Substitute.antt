@@ -1,5 +1,5 @@
 -- What `substitute` promises.
-use Rattle.std.specs.Prelude.{◌≡◌, ℕ, ◌+◌, ◌*◌, ◌<◌, ◌≤◌, ◌^◌, List, [], ◌∷◌, length, nat_eq, Option, Some, None, if◌then◌else◌}
+use Rattle.std.specs.Prelude.{◌≡◌, ℕ, ◌+◌, ◌*◌, ◌<◌, ◌≤◌, ◌^◌, Bool, List, [], ◌∷◌, length, nat_eq, Option, Some, None, if◌then◌else◌}
 use Rattle.std.specs.Option.{option_map_or}
 use Rattle.indexmap.specs.IndexMap.{IndexMap, get}
 use Rattle.cb_model.specs.Bits.{Bits}
@@ -53,3 +53,11 @@ pub record IsSubstituted (ts : List Triple) (list : Images) (n r : ℕ) : Type 0
 -- each answer is right
 pub record AllSubstituted {S : Type 0} (done : IndexMap Node Node S) (ts : List Triple) (list : Images) : Type 0 where
   pub right : (n r : Node) → get node_eq done n ≡ Some r → IsSubstituted ts list n.0 r.0
+
+-- r is the second node where what replaces the level is 1, and the first where it is 0
+abbrev pub IsJoined : List Triple → List Triple → ℕ → ℕ → ℕ → Images → ℕ → Type 0
+IsJoined old new level low high list r = StandsFor new r (λ a. if substituted old list a level then function_of old high a else function_of old low a)
+
+-- the call adds no more nodes than there are rows of the levels on which the two nodes and what replaces the level depend
+pub record JoinRoom (level low high : ℕ) (list : Images) (old new : Store) : Type 0 where
+  pub most : (ls : List ℕ) → (image_of list level ≡ None → IsListed ls level) → ((m : Node) → image_of list level ≡ Some m → DependsOn old.triples m.0 ls) → DependsOn old.triples low ls → DependsOn old.triples high ls → length new.triples ≤ length old.triples + 2 ^ length ls

@@ -1,21 +1,32 @@
--- The list of calls of `ite` that wait for the answers of their cofactors.
+-- The list of calls of `ite` and `xor` that wait for the answers of their cofactors.
 use Rattle.std.specs.Prelude.{◌≡◌, ◌⊎◌, ℕ, ◌+◌, ◌-◌, ◌<◌, ◌≤◌, ◌^◌, min, Bool, true, false, List, [], ◌∷◌, ◌++◌, if◌then◌else◌, Result, Ok, Err}
-use Rattle.cb_model.specs.Bits.{Bits, put}
+use Rattle.cb_model.specs.Bits.{Bits, put, xor}
 use Rattle.cb_dd.specs.declared.Triple.{Triple}
 use Rattle.cb_dd.specs.declared.Stop.{Stop}
 use Rattle.cb_dd.specs.declared.Stop.TheVariants.{Nodes, Memory}
 use Rattle.cb_dd.specs.Diagram.{IsNode, IsChild, function_of, level_of}
-use Rattle.cb_ops.specs.Ops.{IsIte, IsCofactor}
+use Rattle.cb_ops.specs.Ops.{IsCofactor, StandsFor}
 use Rattle.cb_ops.specs.declared.Choice.{Choice}
+use Rattle.cb_ops.specs.declared.Operation.{Operation}
+use Rattle.cb_ops.specs.declared.Operation.TheVariants.{Ite, Xor}
 use Rattle.cb_ops.specs.declared.Pending.{Pending}
 use Rattle.cb_ops.specs.declared.Left.{Left}
 use Rattle.cb_ops.specs.declared.Left.TheVariants as left
 use Rattle.cb_ops.specs.declared.Turn.{Turn}
 use Rattle.cb_ops.specs.declared.Turn.TheVariants as turn
 
+-- the bit of a call from the bits of its nodes
+abbrev pub combined : Operation → Bool → Bool → Bool → Bool
+combined Ite x y z = if x then y else z
+combined Xor x y z = xor x y
+
 -- the value of a call
 abbrev pub value_of : List Triple → Choice → Bits → Bool
-value_of ts c a = if function_of ts c.f.0 a then function_of ts c.g.0 a else function_of ts c.h.0 a
+value_of ts c a = combined c.operation (function_of ts c.f.0 a) (function_of ts c.g.0 a) (function_of ts c.h.0 a)
+
+-- the node has the value that the call has in the old store
+abbrev pub IsValue : List Triple → List Triple → Choice → ℕ → Type 0
+IsValue old new c r = StandsFor new r (value_of old c)
 
 -- the three are nodes
 pub record AreCalled (ts : List Triple) (c : Choice) : Type 0 where
@@ -25,6 +36,7 @@ pub record AreCalled (ts : List Triple) (c : Choice) : Type 0 where
 
 -- the second call is the first with the bit at the level
 pub record IsPart (ts : List Triple) (level : ℕ) (bit : Bool) (c d : Choice) : Type 0 where
+  pub operation : d.operation ≡ c.operation
   pub f : IsCofactor ts c.f.0 level bit d.f.0
   pub g : IsCofactor ts c.g.0 level bit d.g.0
   pub h : IsCofactor ts c.h.0 level bit d.h.0
@@ -52,7 +64,6 @@ HasLeft ts level c (left.Low r) = IsHalf ts level false c r.0
 -- a call waits at the least of its levels
 pub record Waits (ts : List Triple) (x : Pending) : Type 0 where
   pub call : AreCalled ts x.call
-  pub inner : 2 ≤ x.call.f.0
   pub small : x.level < 2 ^ 32
   pub least : x.level ≡ min (min (level_of ts x.call.f.0) (level_of ts x.call.g.0)) (level_of ts x.call.h.0)
   pub left : HasLeft ts x.level x.call x.left
@@ -60,7 +71,7 @@ pub record Waits (ts : List Triple) (x : Pending) : Type 0 where
 -- the node answers the call
 pub record IsAnswered (ts : List Triple) (c : Choice) (r : ℕ) : Type 0 where
   pub node : IsNode ts r
-  pub ite : IsIte ts ts c.f.0 c.g.0 c.h.0 r
+  pub value : (a : Bits) → function_of ts r a ≡ value_of ts c a
 
 -- a call was answered at once, or stands last in the list, and its cofactor is asked
 abbrev pub Asked : List Triple → List Pending → List Pending → Choice → Turn → Type 0

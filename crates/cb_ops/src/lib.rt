@@ -1,19 +1,23 @@
 //! Operations on shared decision diagrams, with a memo of answers (Brace, Rudell and Bryant 1990).
 #![tactic(auto)]
 
-ghost use Rattle.std.specs.Prelude.{◌≡◌, ◌≢◌, ◌⊎◌, ℕ, Bool, not, ◌&&◌, ◌||◌, ◌+◌, ◌-◌, ◌*◌, ◌<◌, ◌≤◌, ◌^◌, ◌↔◌, [], ◌∷◌, ◌++◌, List, length, map, take, Some, None, Ok, Err, IfOk, OnOk, OnErr, IfSome, IfNone, IsTrue, Contains, true, false, if◌then◌else◌};
+ghost use Rattle.std.specs.Prelude.{◌≡◌, ◌≢◌, ◌⊎◌, ℕ, Bool, not, ◌&&◌, ◌||◌, ◌+◌, ◌-◌, ◌*◌, ◌<◌, ◌≤◌, ◌^◌, ◌↔◌, [], ◌∷◌, ◌++◌, List, length, map, take, min, Some, None, Ok, Err, IfOk, OnOk, OnErr, IfSome, IfNone, IsTrue, Contains, true, false, if◌then◌else◌};
 ghost use Rattle.cb_model.specs.Bits.{Bits, xor, put};
 ghost use Rattle.indexmap.specs.IndexMap.{get};
-ghost use Rattle.cb_ops.specs.Done.{AllRestricted, node_eq};
-ghost use Rattle.cb_ops.specs.Substitute.{AreNodes, AllSubstituted, SubstituteCause, SubstituteRoom, image_of, substituted};
+ghost use Rattle.cb_ops.specs.Done.{node_eq};
+ghost use Rattle.cb_ops.specs.Substitute.{AreNodes, AllSubstituted, SubstituteCause, SubstituteRoom, IsJoined, JoinRoom, image_of, substituted};
 ghost use Rattle.cb_ops.specs.Support.{IsWithin, AllWithin, IsGathered};
 ghost use Rattle.cb_dd.specs.Diagram.{Store, IsDiagram, IsCanonical, IsNode, IsChild, IsFull, HasParts, Holds, function_of, level_of, fulls_after, parts_of, triple};
 ghost use Rattle.std.specs.List.Sorted.{IsStrictlyIncreasing};
 ghost use Rattle.cb_ops.specs.Ops.{Grows, StandsFor, IsIte, IsXor, IsCofactor, Room, HasCause, DependsOn, IsFree, IsLeastTrue, IsLeastSide};
 ghost use Rattle.cb_ops.specs.Call.{IsSameCall};
-ghost use Rattle.cb_ops.specs.Waiting.{AreCalled, Asked, Resumed, Waits, IsHalf, bit_of, made_of, fulls_after_turn};
+ghost use Rattle.cb_ops.specs.Waiting.{AreCalled, Asked, Resumed, Waits, IsHalf, IsAnswered, IsValue, bit_of, made_of, fulls_after_turn};
 ghost use Rattle.cb_ops.specs.Pair.{IsSamePair};
 ghost use Rattle.cb_ops.specs.declared.Call.{Call};
+
+mod replace;
+mod sides;
+mod walk;
 
 use cb_dd::{Dd, DdMark, Node, Stop};
 use indexmap::{IndexMap, IndexSet};
@@ -24,9 +28,9 @@ use std::marker::Model;
 /// Levels, rising; up to 16 of them take no memory.
 pub type Levels = SmallVec<u32, 16>;
 
-/// How many answers the memo has room for from the start. It is cleared when it holds as many, and in a store of more
-/// than four times as many nodes when it holds a quarter as many as there are nodes, so that an operation on large
-/// diagrams doesn't lose what it has just found.
+/// How many answers the memo holds at most, which begins empty and grows as it fills. It is cleared when it holds as
+/// many, and in a store of more than four times as many nodes when it holds a quarter as many as there are nodes, so
+/// that an operation on large diagrams doesn't lose what it has just found.
 ///
 /// Measured on the multiplier of 11 bits (3.5 million nodes) and nine queens (231,000 nodes), the best of three runs of
 /// each in turn: a quarter of the nodes 7.3 s and 0.42 s, never more than 65,536 answers 7.4 s and 0.46 s, as many as
@@ -48,9 +52,18 @@ struct Pair {
     g: u32,
 }
 
-// A call of `ite`: the choice, what it is where the choice is 1, and what it is where the choice is 0.
+// What a call asks for.
+#[derive(Clone, Copy)]
+enum Operation {
+    Ite,
+    Xor,
+}
+
+// A call: of `ite`, with the choice, what it is where the choice is 1, and what it is where the choice is 0; or of
+// `xor`, with its two nodes and the constant 0.
 #[derive(Clone, Copy)]
 struct Choice {
+    operation: Operation,
     f: Node,
     g: Node,
     h: Node,
@@ -112,12 +125,10 @@ impl Ops {
     {
         let dd = Dd::new(alloc, budget)?;
         let _count = dd.count();
-        let memo = IndexMap::with_capacity(alloc, MEMO_ROOM)?;
-        let pairs = IndexMap::with_capacity(alloc, MEMO_ROOM)?;
         Ok(Ops {
             dd,
-            memo,
-            pairs,
+            memo: IndexMap::new(alloc),
+            pairs: IndexMap::new(alloc),
             bound: 2,
         })
     }
@@ -198,15 +209,17 @@ impl Ops {
             self.dd.cut(to);
             return;
         }
-        self.memo.clear();
-        self.pairs.clear();
+        let alloc = *self.memo.allocator();
+        self.memo = IndexMap::new(alloc);
+        self.pairs = IndexMap::new(alloc);
         self.bound = 2;
         self.dd.cut(to);
     }
 
     /// The node that is g where f is 1, and h where f is 0.
     ///
-    /// Operator `ite` of Brace, Rudell and Bryant (1990). Calls that wait for the answers of their cofactors stand in a list.
+    /// Operator `ite` of Brace, Rudell and Bryant (1990). Calls that wait for the answers of their cofactors stand in a
+    /// list.
     pub fn ite(&mut self, f: Node, g: Node, h: Node) -> Result<Node, Stop>
         requires f { IsNode self.old.triples f.0 }
         requires g { IsNode self.old.triples g.0 }
@@ -221,9 +234,30 @@ impl Ops {
         ensures fulls { self.new.fulls ≡ fulls_after self.old.fulls result }
         ensures diagram { IsDiagram self.new.triples }
     {
+        self.run(Choice {
+            operation: Operation::Ite,
+            f,
+            g,
+            h,
+        })
+    }
+
+    // The answer of a call.
+    fn run(&mut self, call: Choice) -> Result<Node, Stop>
+        requires call { AreCalled self.old.triples call }
+        ensures is_node { IfOk result (λ n. IsNode self.new.triples n.0) }
+        ensures function { IfOk result (λ n. IsValue self.old.triples self.new.triples call n.0) }
+        ensures grows { Grows self.old self.new }
+        ensures room { Room (call.f.0 ∷ call.g.0 ∷ call.h.0 ∷ []) 1 self.old self.new }
+        ensures full { result ≡ Err Stop.Nodes → length self.new.triples ≡ self.new.budget }
+        ensures nodes { result ≡ Err Stop.Nodes → HasCause (call.f.0 ∷ call.g.0 ∷ call.h.0 ∷ []) 1 self.old self.new }
+        ensures unbounded { self.old.budget ≡ 2 ^ 64 - 1 → result ≢ Err Stop.Nodes }
+        ensures fulls { self.new.fulls ≡ fulls_after self.old.fulls result }
+        ensures diagram { IsDiagram self.new.triples }
+    {
         let _count = self.count();
         let mut pending = Vec::new(*self.memo.allocator());
-        let mut turn = Turn::Ask(Choice { f, g, h });
+        let mut turn = Turn::Ask(call);
         loop {
             match turn {
                 Turn::Ask(call) => {
@@ -246,15 +280,16 @@ impl Ops {
         ensures memory { result ≢ Err Stop.Nodes }
     {
         let _count = self.count();
-        let Choice { f, g, h } = call;
-        if let Some(r) = self.known(f, g, h) {
+        if let Some(r) = self.known(call) {
             return Ok(Turn::Answer(r));
         }
-        let level = self.level(f).min(self.level(g)).min(self.level(h));
+        let level = self.least_level(call);
+        let Choice { operation, f, g, h } = call;
         let (f0, f1) = self.cofactors(f, level);
         let (g0, g1) = self.cofactors(g, level);
         let (h0, h1) = self.cofactors(h, level);
         let high = Choice {
+            operation,
             f: f1,
             g: g1,
             h: h1,
@@ -268,6 +303,7 @@ impl Ops {
             return Err(Stop::Memory);
         };
         Ok(Turn::Ask(Choice {
+            operation,
             f: f0,
             g: g0,
             h: h0,
@@ -300,8 +336,7 @@ impl Ops {
             }
             Left::Low(lo) => {
                 let n = self.node(top.level, lo, r)?;
-                let Choice { f, g, h } = top.call;
-                self.note(f, g, h, n);
+                self.keep(top.call, n);
                 Ok(Turn::Answer(n))
             }
         }
@@ -375,196 +410,12 @@ impl Ops {
         ensures fulls { self.new.fulls ≡ fulls_after self.old.fulls result }
         ensures diagram { IsDiagram self.new.triples }
     {
-        let _count = self.count();
-        if f.0 == g.0 {
-            return Ok(Node::ZERO);
-        }
-        if f.0 == 0 {
-            return Ok(g);
-        }
-        if g.0 == 0 {
-            return Ok(f);
-        }
-        if f.0 == 1 {
-            return self.not(g);
-        }
-        if g.0 == 1 {
-            return self.not(f);
-        }
-        if let Some(r) = self.recall_pair(f, g) {
-            return Ok(r);
-        }
-        let level = self.level(f).min(self.level(g));
-        let (f0, f1) = self.cofactors(f, level);
-        let (g0, g1) = self.cofactors(g, level);
-        let lo = self.xor(f0, g0)?;
-        let hi = self.xor(f1, g1)?;
-        let r = self.node(level as u32, lo, hi)?;
-        self.note_pair(f, g, r);
-        Ok(r)
-    }
-
-    /// The node with that bit at the level: a cofactor.
-    pub fn restrict(&mut self, f: Node, level: u32, bit: bool) -> Result<Node, Stop>
-        requires { IsNode self.old.triples f.0 }
-        ensures is_node { IfOk result (λ n. IsNode self.new.triples n.0) }
-        ensures function { IfOk result (λ n. StandsFor self.new.triples n.0 (λ a.
-            function_of self.old.triples f.0 (put level bit a))) }
-        ensures grows { Grows self.old self.new }
-        ensures room { Room (f.0 ∷ []) 1 self.old self.new }
-        ensures full { result ≡ Err Stop.Nodes → length self.new.triples ≡ self.new.budget }
-        ensures nodes { result ≡ Err Stop.Nodes → HasCause (f.0 ∷ []) 1 self.old self.new }
-        ensures unbounded { self.old.budget ≡ 2 ^ 64 - 1 → result ≢ Err Stop.Nodes }
-        ensures fulls { self.new.fulls ≡ fulls_after self.old.fulls result }
-        ensures diagram { IsDiagram self.new.triples }
-    {
-        let mut done = IndexMap::new(*self.memo.allocator());
-        let n = self.restrict_in(f, level, bit, &mut done)?;
-        Ok(n)
-    }
-
-    /// The node that is 1 where the node is for some bit at the level.
-    pub fn exists(&mut self, f: Node, level: u32) -> Result<Node, Stop>
-        requires { IsNode self.old.triples f.0 }
-        ensures is_node { IfOk result (λ n. IsNode self.new.triples n.0) }
-        ensures function { IfOk result (λ n. StandsFor self.new.triples n.0 (λ a.
-            function_of self.old.triples f.0 (put level false a)
-            || function_of self.old.triples f.0 (put level true a))) }
-        ensures grows { Grows self.old self.new }
-        ensures room { Room (f.0 ∷ []) 3 self.old self.new }
-        ensures full { result ≡ Err Stop.Nodes → length self.new.triples ≡ self.new.budget }
-        ensures nodes { result ≡ Err Stop.Nodes → HasCause (f.0 ∷ []) 3 self.old self.new }
-        ensures unbounded { self.old.budget ≡ 2 ^ 64 - 1 → result ≢ Err Stop.Nodes }
-        ensures fulls { self.new.fulls ≡ fulls_after self.old.fulls result }
-        ensures diagram { IsDiagram self.new.triples }
-    {
-        let low = self.restrict(f, level, false)?;
-        let high = self.restrict(f, level, true)?;
-        let n = self.or(low, high)?;
-        Ok(n)
-    }
-
-    // The same as `restrict`, with the nodes for which it is done.
-    fn restrict_in(
-        &mut self,
-        f: Node,
-        level: u32,
-        bit: bool,
-        done: &mut IndexMap<Node, Node>,
-    ) -> Result<Node, Stop>
-        requires f { IsNode self.old.triples f.0 }
-        requires done { AllRestricted done.old self.old.triples level bit }
-        ensures is_node { IfOk result (λ n. IsNode self.new.triples n.0) }
-        ensures function { IfOk result (λ n. StandsFor self.new.triples n.0 (λ a.
-            function_of self.old.triples f.0 (put level bit a))) }
-        ensures grows { Grows self.old self.new }
-        ensures room { Room (f.0 ∷ []) 1 self.old self.new }
-        ensures full { result ≡ Err Stop.Nodes → length self.new.triples ≡ self.new.budget }
-        ensures unbounded { self.old.budget ≡ 2 ^ 64 - 1 → result ≢ Err Stop.Nodes }
-        ensures fulls { self.new.fulls ≡ fulls_after self.old.fulls result }
-        ensures diagram { IsDiagram self.new.triples }
-        ensures done { AllRestricted done.new self.new.triples level bit }
-    {
-        let _count = self.count();
-        let Some((at, lo, hi)) = self.parts(f) else {
-            return Ok(f);
-        };
-        if level < at {
-            return Ok(f);
-        }
-        if level == at {
-            return Ok(if bit { hi } else { lo });
-        }
-        if let Some(r) = recall_in(done, f) {
-            return Ok(r);
-        }
-        let low = self.restrict_in(lo, level, bit, done)?;
-        let high = self.restrict_in(hi, level, bit, done)?;
-        let r = self.node(at, low, high)?;
-        remember(done, f, r);
-        Ok(r)
-    }
-
-    /// The node with each level of the list replaced by its node, all at once.
-    pub fn substitute(&mut self, f: Node, list: &[(u32, Node)]) -> Result<Node, Stop>
-        requires f { IsNode self.old.triples f.0 }
-        requires nodes { AreNodes self.old.triples list.now }
-        requires rise { IsStrictlyIncreasing (map (λ p. p.0) list.now) }
-        ensures is_node { IfOk result (λ n. IsNode self.new.triples n.0) }
-        ensures function { IfOk result (λ n. StandsFor self.new.triples n.0 (λ a.
-            function_of self.old.triples f.0
-            (substituted self.old.triples list.now a))) }
-        ensures grows { Grows self.old self.new }
-        ensures room { SubstituteRoom f.0 list.now self.old self.new }
-        ensures full { result ≡ Err Stop.Nodes → length self.new.triples ≡ self.new.budget }
-        ensures nodes { result ≡ Err Stop.Nodes → SubstituteCause f.0 list.now self.old self.new }
-        ensures unbounded { self.old.budget ≡ 2 ^ 64 - 1 → result ≢ Err Stop.Nodes }
-        ensures fulls { self.new.fulls ≡ fulls_after self.old.fulls result }
-        ensures diagram { IsDiagram self.new.triples }
-    {
-        let mut done = IndexMap::new(*self.memo.allocator());
-        let n = self.substitute_in(f, list, &mut done)?;
-        Ok(n)
-    }
-
-    // The same, with the nodes for which it is done.
-    fn substitute_in(
-        &mut self,
-        f: Node,
-        list: &[(u32, Node)],
-        done: &mut IndexMap<Node, Node>,
-    ) -> Result<Node, Stop>
-        requires f { IsNode self.old.triples f.0 }
-        requires nodes { AreNodes self.old.triples list.now }
-        requires rise { IsStrictlyIncreasing (map (λ p. p.0) list.now) }
-        requires done { AllSubstituted done.old self.old.triples list.now }
-        ensures is_node { IfOk result (λ n. IsNode self.new.triples n.0) }
-        ensures function { IfOk result (λ n. StandsFor self.new.triples n.0 (λ a.
-            function_of self.old.triples f.0
-            (substituted self.old.triples list.now a))) }
-        ensures grows { Grows self.old self.new }
-        ensures room { SubstituteRoom f.0 list.now self.old self.new }
-        ensures full { result ≡ Err Stop.Nodes → length self.new.triples ≡ self.new.budget }
-        ensures unbounded { self.old.budget ≡ 2 ^ 64 - 1 → result ≢ Err Stop.Nodes }
-        ensures fulls { self.new.fulls ≡ fulls_after self.old.fulls result }
-        ensures diagram { IsDiagram self.new.triples }
-        ensures done { AllSubstituted done.new self.new.triples list.now }
-    {
-        let _count = self.count();
-        let Some((at, lo, hi)) = self.parts(f) else {
-            return Ok(f);
-        };
-        if let Some(r) = recall_in(done, f) {
-            return Ok(r);
-        }
-        let low = self.substitute_in(lo, list, done)?;
-        let high = self.substitute_in(hi, list, done)?;
-        let choice = self.image(at, list)?;
-        let r = self.ite(choice, high, low)?;
-        remember(done, f, r);
-        Ok(r)
-    }
-
-    // The node that replaces the level, or else the bit at the level.
-    fn image(&mut self, level: u32, list: &[(u32, Node)]) -> Result<Node, Stop>
-        requires nodes { AreNodes self.old.triples list.now }
-        requires rise { IsStrictlyIncreasing (map (λ p. p.0) list.now) }
-        ensures is_node { IfOk result (λ n. IsNode self.new.triples n.0) }
-        ensures function { IfOk result (λ n. StandsFor self.new.triples n.0 (λ a.
-            substituted self.old.triples list.now a level)) }
-        ensures grows { Grows self.old self.new }
-        ensures one { length self.new.triples ≤ length self.old.triples + 1 }
-        ensures full { result ≡ Err Stop.Nodes → length self.new.triples ≡ self.new.budget }
-        ensures unbounded { self.old.budget ≡ 2 ^ 64 - 1 → result ≢ Err Stop.Nodes }
-        ensures fulls { self.new.fulls ≡ fulls_after self.old.fulls result }
-        ensures diagram { IsDiagram self.new.triples }
-    {
-        let _count = self.count();
-        if let Some(n) = replacing(list, level) {
-            return Ok(n);
-        }
-        let n = self.node(level, Node::ZERO, Node::ONE)?;
-        Ok(n)
+        self.run(Choice {
+            operation: Operation::Xor,
+            f,
+            g,
+            h: Node::ZERO,
+        })
     }
 
     /// Whether the node is 1 at some assignment; if so, `into` becomes the least that makes it so, its i-th bit for
@@ -681,10 +532,65 @@ impl Ops {
         }
     }
 
-    // The answer of a call that needs no work: the choice or the two sides are plain, or it was made before. It isn't
-    // inlined, so that the frames of the recursion stay small.
-    #[inline(never)]
-    fn known(&self, f: Node, g: Node, h: Node) -> Option<Node>
+    // The least level on which the nodes of a call depend.
+    fn least_level(&self, call: Choice) -> u64
+        requires call { AreCalled self.now.triples call }
+        requires inner { (2 ≤ call.f.0) ⊎ (2 ≤ call.g.0) }
+        ensures least { result ≡ min (min (level_of self.now.triples call.f.0) (level_of self.now.triples call.g.0)) (level_of self.now.triples call.h.0) }
+        ensures small { result < 2 ^ 32 }
+    {
+        self.level(call.f)
+            .min(self.level(call.g))
+            .min(self.level(call.h))
+    }
+
+    // The answer of a call that needs no work.
+    fn known(&self, call: Choice) -> Option<Node>
+        requires call { AreCalled self.now.triples call }
+        ensures answered { IfSome result (λ r. IsAnswered self.now.triples call r.0) }
+        ensures inner { IfNone result ((2 ≤ call.f.0) ⊎ (2 ≤ call.g.0)) }
+    {
+        match call.operation {
+            Operation::Ite => self.known_ite(call.f, call.g, call.h),
+            Operation::Xor => self.known_xor(call.f, call.g),
+        }
+    }
+
+    // Keeps the answer of a call, where it fits.
+    fn keep(&mut self, call: Choice, r: Node)
+        requires call { AreCalled self.old.triples call }
+        requires answered { IsAnswered self.old.triples call r.0 }
+        ensures same { self.new ≡ self.old }
+    {
+        match call.operation {
+            Operation::Ite => self.note(call.f, call.g, call.h, r),
+            Operation::Xor => self.note_pair(call.f, call.g, r),
+        }
+    }
+
+    // The answer of a call of `xor` that needs no work: the nodes are the same, one is 0, or it was made before.
+    fn known_xor(&self, f: Node, g: Node) -> Option<Node>
+        requires f { IsNode self.now.triples f.0 }
+        requires g { IsNode self.now.triples g.0 }
+        ensures node { IfSome result (λ r. IsNode self.now.triples r.0) }
+        ensures xor { IfSome result (λ r. IsXor self.now.triples self.now.triples f.0 g.0 r.0) }
+        ensures inner { IfNone result ((2 ≤ f.0) ⊎ (2 ≤ g.0)) }
+    {
+        let _count = self.count();
+        if f.0 == g.0 {
+            return Some(Node::ZERO);
+        }
+        if f.0 == 0 {
+            return Some(g);
+        }
+        if g.0 == 0 {
+            return Some(f);
+        }
+        self.recall_pair(f, g)
+    }
+
+    // The answer of a call of `ite` that needs no work: the choice or the two sides are plain, or it was made before.
+    fn known_ite(&self, f: Node, g: Node, h: Node) -> Option<Node>
         requires f { IsNode self.now.triples f.0 }
         requires g { IsNode self.now.triples g.0 }
         requires h { IsNode self.now.triples h.0 }
@@ -721,14 +627,12 @@ impl Ops {
         }
     }
 
-    // Keeps the answer of a call, where it fits.
-    #[inline(never)]
+    // Keeps the answer of a call of `ite`, where it fits.
     fn note(&mut self, f: Node, g: Node, h: Node, r: Node)
         requires f { IsNode self.old.triples f.0 }
         requires g { IsNode self.old.triples g.0 }
         requires h { IsNode self.old.triples h.0 }
         requires r { IsNode self.old.triples r.0 }
-        requires inner { 2 ≤ f.0 }
         requires ite { IsIte self.old.triples self.old.triples f.0 g.0 h.0 r.0 }
         ensures same { self.new ≡ self.old }
     {
@@ -739,7 +643,7 @@ impl Ops {
         let Ok(answer) = u32::try_from(r.0) else {
             return;
         };
-        let largest = f.0.max(g.0).max(h.0).max(r.0);
+        let largest = f.0.max(g.0).max(h.0).max(r.0).max(1);
         self.bound = self.bound.max(largest + 1);
         let _ = self.memo.insert(call, answer);
     }
@@ -857,19 +761,6 @@ fn else_side(f: Node, h: Node) -> Node
         return Node::ZERO;
     }
     h
-}
-
-// The node that replaces the level, if one does.
-fn replacing(list: &[(u32, Node)], level: u32) -> Option<Node>
-    requires { IsStrictlyIncreasing (map (λ p. p.0) list.now) }
-    ensures { result ≡ image_of list.now level }
-{
-    let i = list.partition_point(|entry| entry.0 < level);
-    let entry = list.get(i)?;
-    if entry.0 == level {
-        return Some(entry.1);
-    }
-    None
 }
 
 // What was remembered for the node.

@@ -1,5 +1,5 @@
 -- The half adder and its comparisons.
-use Rattle.std.proofs.Common.{◌≡◌, ℕ, ◌<◌, Bool, true, false, ◌&&◌, ◌||◌, List, [], ◌∷◌, length, get_or, take, refl, sym, ◌∙◌, ap, arith, codes}
+use Rattle.std.proofs.Common.{◌≡◌, ℕ, ◌<◌, Bool, true, false, not, ◌&&◌, ◌||◌, List, [], ◌∷◌, length, get_or, take, refl, sym, ◌∙◌, ap, arith, codes}
 use Rattle.std.specs.Fmt.{digits}
 use Rattle.cb_model.specs.declared.Circuit.{Circuit}
 use Rattle.cb_model.specs.declared.Outcome.TheVariants as outcome
@@ -7,7 +7,7 @@ use Rattle.cb_model.specs.Bits.{xor, weight}
 use Rattle.cb_model.specs.Circuits.{Consistent, Outputs, read_all, BySpec, spec_values, Agrees, LeastDifference}
 use Rattle.cb_model.specs.Verdicts.{Compared, agrees, differs}
 use Rattle.cb_laws.proofs.Values.{expr_values}
-use Rattle.cb_rows.specs.CircuitExamples.{A, B, half_adder, full_adder, half_with, circuit_at, half_spec, CircuitExamples}
+use Rattle.cb_rows.specs.CircuitExamples.{A, B, half_adder, full_adder, half_with, circuit_at, half_spec, not_half, CircuitExamples}
 
 abbrev sum' : Bool → Bool → Bool
 sum' x y = xor x (xor y false)
@@ -87,6 +87,44 @@ or_differs = record {
   least_input = below_one;
 }
 
+-- the other values
+wanted_not : (x y : Bool) → spec_values not_half (x ∷ y ∷ []) ≡ not (sum' x y) ∷ not (carry x y) ∷ []
+wanted_not x y = simp expr_values refl
+
+zeros_out : Outputs half (false ∷ false ∷ []) (false ∷ false ∷ [])
+zeros_out = record { v = false ∷ false ∷ false ∷ false ∷ []; consistent = record { every_net = refl; inputs = refl; gates = (refl, (refl, tt)) }; outputs = refl }
+
+not_differs : LeastDifference half (BySpec not_half) (false ∷ false ∷ []) 0 false true
+not_differs = record {
+  xs = false ∷ false ∷ [];
+  ys = true ∷ true ∷ [];
+  width = refl;
+  outputs = zeros_out;
+  by_spec = sym (wanted_not false false);
+  within = omega arith;
+  has = refl;
+  wants = refl;
+  differ = λ e. cc;
+  least_output = refl;
+  least_input = λ other us vs e l o w. absurd (omega arith);
+}
+
+-- what the half adder gives, and what is wanted
+given : (d : List Bool) (x y : Bool) → Outputs half (x ∷ y ∷ []) d → d ≡ sum' x y ∷ carry x y ∷ []
+given d x y o = o.outputs ∙ read_half x y o.v o.consistent
+
+second_not : (x y : Bool) → LeastDifference half (BySpec not_half) (false ∷ false ∷ []) 1 x y → ⊥
+second_not x y d =
+    let us : d.xs ≡ false ∷ false ∷ [] = given d.xs false false d.outputs in
+    let vs : d.ys ≡ true ∷ true ∷ [] = d.by_spec ∙ wanted_not false false in
+    let same : false ∷ [] ≡ true ∷ [] = ap (take 1) (sym us) ∙ d.least_output ∙ ap (take 1) vs in
+    cc
+
+later_not : (x y : Bool) → LeastDifference half (BySpec not_half) (false ∷ true ∷ []) 0 x y → ⊥
+later_not x y d =
+    let same : false ∷ false ∷ [] ≡ true ∷ true ∷ [] = d.least_input (false ∷ false ∷ []) (false ∷ false ∷ []) (true ∷ true ∷ []) refl (omega arith) zeros_out (sym (wanted_not false false)) in
+    cc
+
 pub verified : Compared (codes "half_adder") (codes "verified ") (A ∷ B ∷ []) half (BySpec half_spec) ⊥ (codes "verified half_adder" ∷ []) outcome.Done
 verified = agrees half_agrees refl
 
@@ -115,6 +153,9 @@ rows_hold = record {
   through_flat = refl;
   verified = verified;
   differs = differs_line;
+  first_output = not_differs;
+  not_second_output = second_not;
+  not_second_input = later_not;
   without_ports = refl;
   value = refl;
   adder_of_one = refl;

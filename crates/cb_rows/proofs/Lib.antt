@@ -25,3 +25,7 @@ pub mod FormRow
 pub mod OutsideRows
 pub mod SolutionRows
 pub mod StopRow
+pub mod BoundRows
+pub mod StepRows
+pub mod SortedRows
+pub mod TableRows

@@ -41,7 +41,7 @@ abbrev first : List Ground → Ground
 first [] = Int (pos 0)
 first (g ∷ gs) = g
 
-one_leaf : IsShape p.world [] (tree.Leaf X ∷ []) (tree.Leaf X ∷ [])
+pub one_leaf : IsShape p.world [] (tree.Leaf X ∷ []) (tree.Leaf X ∷ [])
 one_leaf = record {
   only_leaves = simp shape_values refl;
   leaf_order = simp shape_values refl;
@@ -50,7 +50,7 @@ one_leaf = record {
   free = λ a b o o' m e sorted. (with_opens o o', (record { admitted = m.admitted; sorted = sorted; sat = tt }, refl));
 }
 
-solvable : Solvable p.world []
+pub solvable : Solvable p.world []
 solvable a ok = record { b = with_bits (λ n. false); sorted = λ n. zero_fits; sat = tt }
 
 -- the first branch has one printed leaf, and one node less than its bound allows a stop
@@ -76,10 +76,10 @@ pub name_first_bound : room_with name_program (first_branch name_query) 0 ≡ 81
 name_first_bound = simp size_values refl
 
 -- the clause `p.`
-abbrev fact : Clause
+abbrev pub fact : Clause
 fact = record { pred = 0; sorts = []; head = []; body = [] }
 
-name_tried : SoFar name_program name_query 10 (Made (first_branch name_query) ∷ []) 0 (Try name_behind 0 [] 0 ∷ [])
+pub name_tried : SoFar name_program name_query 10 (Made (first_branch name_query) ∷ []) 0 (Try name_behind 0 [] 0 ∷ [])
 name_tried = record {
   begins = refl;
   rest = [];

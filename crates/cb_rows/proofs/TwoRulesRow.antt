@@ -3,7 +3,7 @@ use Rattle.std.proofs.Common.{false, [], ◌∷◌, refl, inl, codes, arith}
 use Rattle.cb_model.specs.declared.Goal.TheVariants as goal
 use Rattle.cb_model.specs.Bits.{none}
 use Rattle.cb_model.specs.Equations.{Solvable}
-use Rattle.cb_model.specs.Derivation.{Branch, Run, Made, Dropped, Adds, Goes, here, on, whole, Whole, runs, RuleMatches, resolved, first_branch}
+use Rattle.cb_model.specs.Derivation.{Moves, Branch, Run, Made, Dropped, Adds, Goes, here, on, whole, Whole, runs, RuleMatches, resolved, first_branch}
 use Rattle.cb_model.specs.Output.{QuerySays, all, no_lines}
 use Rattle.cb_model.specs.Commands.{Max}
 use Rattle.cb_laws.proofs.Values.{expr_values, tree_values}
@@ -12,7 +12,7 @@ use Rattle.cb_rows.proofs.DemonRow.{shift-var}
 use Rattle.cb_rows.proofs.TryRow.{shift-leaf}
 use Rattle.cb_rows.specs.TwoRulesRow.{rule, p, zero, q, names}
 
-abbrev taken : Branch
+abbrev pub taken : Branch
 taken = resolved (record (first_branch q) { goals = [] }) 0 (zero ∷ []) (rule (goal.Fail ∷ []))
 
 first_matches : RuleMatches p [] 0 (zero ∷ []) 0
@@ -34,6 +34,11 @@ second_matches = record {
 
 solvable : Solvable p.world taken.items
 solvable a ok = record { b = with_bits (λ n. false); sorted = λ n. zero_fits; sat = (simp (shift-leaf, shift-var, tree_values, expr_values) refl, tt) }
+
+-- the first is taken, and costs a resolution
+pub commits : Moves p (Run (first_branch q)) (Adds 1 [] taken)
+unfolding first_matches
+commits = inl (0, first_matches, (λ j l r. absurd (omega arith)), refl)
 
 goes : Goes p 1 0 (Run (first_branch q) ∷ []) (Made taken ∷ []) 1 []
 unfolding first_matches

@@ -1,5 +1,5 @@
 -- Worked circuits: gates, flattening, outputs, differences, and the lines of comparisons.
-use Rattle.std.specs.Prelude.{◌≡◌, ℕ, zero, ◌++◌, ◌||◌, ◌&&◌, not, true, false, List, [], ◌∷◌, map, codes, get_or}
+use Rattle.std.specs.Prelude.{◌≡◌, ℕ, zero, ◌++◌, ◌||◌, ◌&&◌, not, Bool, true, false, List, [], ◌∷◌, map, codes, get_or}
 use Rattle.cb_model.specs.declared.GateKind.TheVariants as gate
 use Rattle.cb_model.specs.declared.GateKind.{GateKind}
 use Rattle.cb_model.specs.declared.Gate.{Gate}
@@ -9,7 +9,7 @@ use Rattle.cb_model.specs.declared.Expr.TheVariants as expr
 use Rattle.cb_model.specs.declared.Outcome.TheVariants as outcome
 use Rattle.cb_model.specs.Bits.{rows, weight}
 use Rattle.cb_model.specs.Text.{Text}
-use Rattle.cb_model.specs.Circuits.{gate_value, Module, Instance, flats, circuit_of, no_flat, Outputs, BySpec}
+use Rattle.cb_model.specs.Circuits.{gate_value, Module, Instance, flats, circuit_of, no_flat, Outputs, LeastDifference, BySpec}
 use Rattle.cb_model.specs.Answers.{value_text}
 use Rattle.cb_model.specs.Adder.{adder_text}
 use Rattle.cb_model.specs.Verdicts.{differs_text, Compared}
@@ -91,6 +91,10 @@ gate_at kind ins out = record { kind = kind; ins = ins; out = out }
 abbrev pub half_spec : List Expr
 half_spec = expr.Xor (expr.Var 0 ∷ expr.Var 1 ∷ []) ∷ expr.And (expr.Var 0 ∷ expr.Var 1 ∷ []) ∷ []
 
+-- the specification `[~(A # B), ~(A * B)]`
+abbrev pub not_half : List Expr
+not_half = map expr.Not half_spec
+
 -- the names of a constant and of the first parameter
 abbrev pub name_at : ℕ → Text
 name_at zero = codes "a"
@@ -121,6 +125,11 @@ pub record CircuitExamples : Type 0 where
   -- with `or` in place of `and` it differs first at the second input, in its second output alone
   pub differs : Compared (codes "half_adder") (codes "verified ") (A ∷ B ∷ []) (circuit_at 0 (half_with (codes "or") ∷ [])) (BySpec half_spec) ⊥
       (codes "differs half_adder at A=0 B=1: output 2 is 1, wanted 0" ∷ []) outcome.Differs
+  -- where both outputs are wrong at the first input, they differ first there and at the first output; not at the second
+  -- output, and not at another input
+  pub first_output : LeastDifference (circuit_at 0 (half_adder ∷ [])) (BySpec not_half) (false ∷ false ∷ []) 0 false true
+  pub not_second_output : (x y : Bool) → LeastDifference (circuit_at 0 (half_adder ∷ [])) (BySpec not_half) (false ∷ false ∷ []) 1 x y → ⊥
+  pub not_second_input : (x y : Bool) → LeastDifference (circuit_at 0 (half_adder ∷ [])) (BySpec not_half) (false ∷ true ∷ []) 0 x y → ⊥
   -- without inputs the ports are left out
   pub without_ports : differs_text (codes "m") [] [] 0 true false ≡ codes "differs m: output 1 is 1, wanted 0"
   -- the text of a function of a constant and a parameter

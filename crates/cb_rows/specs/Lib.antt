@@ -23,3 +23,7 @@ pub mod FormExamples
 pub mod OutsideExamples
 pub mod SolutionExamples
 pub mod StopRow
+pub mod BoundExamples
+pub mod StepExamples
+pub mod SortedExamples
+pub mod TableExamples

@@ -1,6 +1,7 @@
 //! Worked examples of the definitions: each is part of the contract of a function that does nothing.
 #![tactic(auto)]
 
+ghost use Rattle.cb_rows.specs.BoundExamples.{BoundExamples};
 ghost use Rattle.cb_rows.specs.CircuitExamples.{CircuitExamples};
 ghost use Rattle.cb_rows.specs.DetailExamples.{DetailExamples};
 ghost use Rattle.cb_rows.specs.FileExamples.{FileExamples};
@@ -11,7 +12,15 @@ ghost use Rattle.cb_rows.specs.OutsideExamples.{OutsideExamples};
 ghost use Rattle.cb_rows.specs.QueryExamples.{QueryExamples};
 ghost use Rattle.cb_rows.specs.RoomExamples.{RoomExamples};
 ghost use Rattle.cb_rows.specs.SolutionExamples.{SolutionExamples};
+ghost use Rattle.cb_rows.specs.SortedExamples.{SortedExamples};
+ghost use Rattle.cb_rows.specs.StepExamples.{StepExamples};
+ghost use Rattle.cb_rows.specs.TableExamples.{TableExamples};
 ghost use Rattle.cb_rows.specs.TextExamples.{TextExamples};
+
+/// Worked sizes and bounds, each number with what one more or one less would break.
+pub fn bound_examples()
+    ensures { BoundExamples }
+{}
 
 /// Worked circuits: gates, flattening, comparisons and the generated adder.
 pub fn circuit_examples()
@@ -61,6 +70,21 @@ pub fn room_examples()
 /// Worked solutions: equations and tables, the parametric form, single steps, and circuits with one valuation.
 pub fn solution_examples()
     ensures { SolutionExamples }
+{}
+
+/// Worked trees with their sorts, orders of things that need one another, and what nets carry.
+pub fn sorted_examples()
+    ensures { SortedExamples }
+{}
+
+/// Worked steps: what each kind of step counts and numbers, and what is known of a value.
+pub fn step_examples()
+    ensures { StepExamples }
+{}
+
+/// Worked tables: gates, the numbers of refusals, and the names that are kept.
+pub fn table_examples()
+    ensures { TableExamples }
 {}
 
 /// Worked texts: tokens, clauses, nestings and faults.

@@ -1,6 +1,6 @@
 //! The rules of a file, one after another.
 
-ghost use Rattle.std.specs.Prelude.{◌≡◌, ◌&&◌, true, false, map, length, IfOk, MatchResult, List, Option, None, ◌∷◌};
+ghost use Rattle.std.specs.Prelude.{◌≡◌, ◌&&◌, true, false, map, length, IfOk, MatchResult, List, Option, None, [], ◌∷◌};
 ghost use Rattle.std.specs.List.{list_all};
 ghost use Rattle.cb_model.specs.Text.{Text};
 ghost use Rattle.cb_model.specs.Grammar.{FormClause};
@@ -83,11 +83,36 @@ fn clause<'s>(
         more: &none,
         modules: given.modules,
     };
+    numbered(alloc, &numbers, marking, head, body)
+}
+
+/// The clause of a rule with these sorts, under these numbers.
+fn numbered<'s>(
+    alloc: Global,
+    numbers: &Numbers<'_, 's>,
+    marking: &Marking<'s>,
+    head: &RawTerm<'s>,
+    body: &[RawGoal<'s>],
+) -> Result<Clause, AllocError>
+    requires head { (is_name (form_of head.now) && is_written (form_of head.now)) ≡ true }
+    requires body { list_all goal_written (map goal_form body.now) ≡ true }
+    requires marking { IsMarking numbers.now.declared.now (body_of (form_of head.now) (map goal_form body.now)) marking.now }
+    requires variables { numbers.now.variables.now ≡ marking.now.variables }
+    requires more { numbers.now.more.now ≡ [] }
+    ensures { IfOk result (λ c. (ms : List (Option Text)) → AreNumbers ms numbers.now.modules.now → IsClause numbers.now.declared.now numbers.now.names.now ms (form_of head.now) (map goal_form body.now) c) }
+{
+    let pred = head_number(numbers, head)?;
     let mut own = 0;
-    let arguments = arguments(alloc, &numbers, head, &mut own)?;
-    let goals = body_goals(alloc, &numbers, marking, body, &mut own)?;
-    let sorts = Items::from_slice(alloc, marking.sorts())?;
-    let pred = head_number(&numbers, head)?;
+    let arguments = arguments(alloc, numbers, head, &mut own)?;
+    let Ok(goals) = body_goals(alloc, numbers, marking, body, &mut own) else {
+        drop(arguments);
+        return Err(AllocError);
+    };
+    let Ok(sorts) = Items::from_slice(alloc, marking.sorts()) else {
+        drop(arguments);
+        drop(goals);
+        return Err(AllocError);
+    };
     Ok(Clause {
         pred,
         sorts,

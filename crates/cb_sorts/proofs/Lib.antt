@@ -3,3 +3,5 @@ pub mod Queries
 pub mod Printing
 pub mod Extended
 pub mod OverFile
+pub mod Declared
+pub mod Called

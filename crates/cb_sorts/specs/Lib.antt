@@ -1,3 +1,4 @@
 pub mod Source
 pub mod Asked
 pub mod OverFile
+pub mod Called

@@ -50,6 +50,7 @@ pub(crate) fn chained_rules<'s>(
     };
     let clauses = rules(alloc, &given, clauses)?;
     let Ok(chains) = Chains::new(alloc, known.names.len(), clauses.as_slice()) else {
+        drop(clauses);
         return Err(LoadError::Memory);
     };
     Ok(ChainedRules { clauses, chains })

@@ -2,6 +2,7 @@
 #![tactic(auto)]
 
 ghost use Rattle.cb_sorts.specs.OverFile.{QueriesOverFile};
+ghost use Rattle.cb_sorts.specs.Called.{QueriesCallNames};
 
 mod asking;
 mod chained;
@@ -20,4 +21,10 @@ pub use query::Query;
 /// file, and the file's clauses stay as they were.
 pub fn queries_over_file()
     ensures { QueriesOverFile }
+{}
+
+/// Each goal that a query calls has a name of the file, so a number that `first`, `when` and `demon` of its program take:
+/// also a declared name that has no clauses.
+pub fn queries_call_names()
+    ensures { QueriesCallNames }
 {}

@@ -22,11 +22,23 @@ pub fn load<'s>(alloc: Global, clauses: &[RawClause<'s>]) -> Result<Program<'s>,
     let Ok(known) = file_names(alloc, clauses) else {
         return Err(LoadError::Memory);
     };
-    let declared = declare(alloc, &known.heads, clauses)?;
-    let rules = chained_rules(alloc, &declared, &known, clauses)?;
-    Ok(Program {
-        declared,
-        known,
-        rules,
-    })
+    let declared = match declare(alloc, &known.heads, clauses) {
+        Ok(declared) => declared,
+        Err(error) => {
+            drop(known);
+            return Err(error);
+        }
+    };
+    match chained_rules(alloc, &declared, &known, clauses) {
+        Ok(rules) => Ok(Program {
+            declared,
+            known,
+            rules,
+        }),
+        Err(error) => {
+            drop(declared);
+            drop(known);
+            Err(error)
+        }
+    }
 }

@@ -1,27 +1,9 @@
-use Rattle.std.proofs.Common.{arith, ◌∙◌}
-use Rattle.std.proofs.lemmas.Result.{err_from_is_err_and}
-use Rattle.cb_ops.proofs.Ite.{cause}
-use Rattle.cb_ops.proofs.Restrict.{two-rooms, exists-is, exists-room}
+use Rattle.std.proofs.Common.{[], ◌∷◌}
+use Rattle.cb_ops.proofs.Joins.{room-three, cause-three}
 use Rattle.cb_ops.proofs.Ops.exists.Goals as goal
 
-pub returns-in_err-high-clause-room : goal.returns-in_err-high-clause-room
-returns-in_err-high-clause-room c = two-rooms c.args.self.now c.restrict.new.self c.restrict-2.new.self c.restrict-2.new.self c.restrict.ensures.grows c.restrict-2.ensures.grows c.args.f.0 c.args.level 0 0 c.requires c.restrict.ensures.room c.restrict-2.ensures.room
-
-pub returns-in_err-n-clause-room : goal.returns-in_err-n-clause-room
-returns-in_err-n-clause-room c = exists-room c.args.self.now c.restrict.new.self c.restrict-2.new.self c.or.new.self c.restrict.ensures.grows c.restrict-2.ensures.grows c.args.f.0 c.args.level c.in_ok-low.low.0 c.in_ok-high.high.0 c.requires c.in_ok-low.ensures.is_node c.in_ok-low.ensures.function c.in_ok-high.ensures.function c.restrict.ensures.room c.restrict-2.ensures.room c.or.ensures.room
-
 pub returns-clause-room : goal.returns-clause-room
-returns-clause-room c = exists-room c.args.self.now c.restrict.new.self c.restrict-2.new.self c.or.new.self c.restrict.ensures.grows c.restrict-2.ensures.grows c.args.f.0 c.args.level c.in_ok-low.low.0 c.in_ok-high.high.0 c.requires c.in_ok-low.ensures.is_node c.in_ok-low.ensures.function c.in_ok-high.ensures.function c.restrict.ensures.room c.restrict-2.ensures.room c.or.ensures.room
+returns-clause-room c = room-three (c.args.f.0 ∷ []) c.args.self.now c.join_sides.new.self c.join_sides.ensures.room
 
-pub returns-clause-function : goal.returns-clause-function
-returns-clause-function c = exists-is c.args.self.now c.restrict.new.self c.restrict-2.new.self c.or.new.self c.restrict.ensures.grows c.restrict-2.ensures.grows c.args.f.0 c.args.level c.in_ok-low.low.0 c.in_ok-high.high.0 c.requires c.in_ok-low.ensures.is_node c.in_ok-low.ensures.function c.in_ok-high.ensures.function c.in_ok-n.n.0 c.in_ok-n.ensures.function
-
-pub returns-in_err-high-clause-nodes : goal.returns-in_err-high-clause-nodes
-returns-in_err-high-clause-nodes c =
-    let p = err_from_is_err_and c.from_residual-in_err-high.result c.from_residual-in_err-high.ensures.1 in
-    rw (p.1, p.2) (cause _ 3 c.args.self.now c.restrict-2.new.self _ _ (omega arith) (returns-in_err-high-clause-room c) (c.restrict-2.ensures.grows.budget ∙ c.restrict.ensures.grows.budget) c.in_ok-low.ensures.fulls c.in_err-high.ensures.fulls c.in_err-high.ensures.full)
-
-pub returns-in_err-n-clause-nodes : goal.returns-in_err-n-clause-nodes
-returns-in_err-n-clause-nodes c =
-    let p = err_from_is_err_and c.from_residual-in_err-n.result c.from_residual-in_err-n.ensures.1 in
-    rw (p.1, p.2) (cause _ 3 c.args.self.now c.or.new.self _ _ (omega arith) (returns-in_err-n-clause-room c) (c.or.ensures.grows.budget ∙ c.restrict-2.ensures.grows.budget ∙ c.restrict.ensures.grows.budget) (c.in_ok-high.ensures.fulls ∙ c.in_ok-low.ensures.fulls) c.in_err-n.ensures.fulls c.in_err-n.ensures.full)
+pub returns-clause-nodes : goal.returns-clause-nodes
+returns-clause-nodes c = λ h. cause-three (c.args.f.0 ∷ []) c.args.self.now c.join_sides.new.self (c.join_sides.ensures.nodes h)

@@ -1,8 +1,0 @@
-use Rattle.cb_ops.proofs.Waiting.{Going, work_of}
-use Rattle.cb_ops.proofs.Ops.ite.Given as goal
-
-abbrev pub invariant-loop-turn : goal.invariant-loop-turn
-invariant-loop-turn l = Going l.fn.self l.self (record { f = l.fn.f; g = l.fn.g; h = l.fn.h }) l.pending.items l.turn
-
-abbrev pub decreases-loop-turn : goal.decreases-loop-turn
-decreases-loop-turn l = work_of l.self.triples l.pending.items l.turn
