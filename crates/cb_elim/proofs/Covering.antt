@@ -1,5 +1,5 @@
 -- Which slots may depend on which free level: what growing, rewriting and going back make of it.
-use Rattle.std.proofs.Common.{◌≡◌, ◌≢◌, ◌⊎◌, inl, inr, ℕ, zero, suc, ◌+◌, ◌<◌, ◌≤◌, Bool, true, false, List, [], ◌∷◌, ◌++◌, length, take, drop, get_or, refl, sym, ap, subst, ◌∙◌, arith, length-append}
+use Rattle.std.proofs.Common.{◌≡◌, ◌≢◌, ◌⊎◌, inl, inr, ℕ, zero, suc, ◌+◌, ◌<◌, ◌≤◌, false, List, [], ◌∷◌, ◌++◌, length, take, drop, get_or, refl, sym, ap, subst, ◌∙◌, arith, length-append}
 use Rattle.std.specs.Prelude.{slice_set}
 use Rattle.std.proofs.lemmas.Bool.{cases_eq, cases_lt, true≢false}
 use Rattle.std.proofs.lemmas.List.{drop-append-le, length-set, length-take-le}
@@ -12,8 +12,7 @@ use Rattle.cb_dd.specs.Diagram.{Store, IsNode, function_of}
 use Rattle.cb_dd.proofs.Diagrams.{function_of-zero}
 use Rattle.cb_ops.specs.Ops.{Grows, IsFree}
 use Rattle.cb_ops.specs.Support.{IsListed}
-use Rattle.cb_ops.specs.Substitute.{Images, substituted}
-use Rattle.cb_ops.proofs.Ite.{grown-node, put-same, put-other}
+use Rattle.cb_ops.proofs.Ite.{put-same, put-other}
 use Rattle.cb_boole.specs.Elimination.{Function}
 use Rattle.cb_solution.proofs.Solved.{listed-cases, listed-here, listed-there}
 use Rattle.cb_trail.specs.declared.uses.Use.{Use}
@@ -21,7 +20,7 @@ use Rattle.cb_trail.specs.Uses.{IsUsed, StaysUsed}
 use Rattle.cb_elim.specs.declared.Change.{Change}
 use Rattle.cb_elim.specs.Store.{AreThere, value_in}
 use Rattle.cb_elim.specs.Moments.{undone}
-use Rattle.cb_elim.specs.Watch.{AreWatched, Covers, IsDead, KeepsUses, UsesNew}
+use Rattle.cb_elim.specs.Watch.{Covers, IsDead, KeepsUses, UsesNew}
 use Rattle.cb_elim.proofs.Views.{value-still}
 use Rattle.cb_elim.proofs.Slots.{value-last, value-other}
 use Rattle.cb_elim.proofs.Back.{length-undone, take-undone, undone-append}

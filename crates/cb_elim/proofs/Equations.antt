@@ -108,6 +108,7 @@ module _ (s : Seen) (st : IsStore s) (f g : ℕ) (a : IsArgument s f) (b : IsArg
       good-unified = good_after (view_of s) st.good ls are-free (differ s.nodes.triples f g) fit-differ none_left
 
       form-unified : IsForm (unified (view_of s) ls (differ s.nodes.triples f g))
+      unfolding view_of
       form-unified = form_after (view_of s) st.good st.form ls are-free (falls ls el.falls) (differ s.nodes.triples f g) fit-differ are-held none_left
 
       solved-unified : IsSolved (view_of s) (unified (view_of s) ls (differ s.nodes.triples f g)) (function_of s.nodes.triples f) (function_of s.nodes.triples g)

@@ -7,7 +7,6 @@ use Rattle.cb_dd.specs.declared.Node.{Node}
 use Rattle.cb_dd.specs.Diagram.{Store, function_of}
 use Rattle.cb_ops.specs.Ops.{Grows, StandsFor}
 use Rattle.cb_ops.specs.Substitute.{Images}
-use Rattle.cb_ops.proofs.Ite.{Grows-then}
 use Rattle.cb_boole.specs.Elimination.{Function, rest, solved}
 use Rattle.cb_solution.specs.Solution.{IsSolution, HasRest}
 use Rattle.cb_elim.specs.Store.{AreThere, value_in}

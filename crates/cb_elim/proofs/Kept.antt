@@ -1,17 +1,16 @@
 -- What the fields of a store keep through each of its calls.
-use Rattle.std.proofs.Common.{◌≡◌, ◌⊎◌, inl, inr, ℕ, ◌+◌, ◌<◌, ◌≤◌, Bool, true, List, [], ◌∷◌, ◌++◌, length, take, drop, refl, sym, ap, subst, ◌∙◌, arith}
+use Rattle.std.proofs.Common.{◌≡◌, inl, inr, ℕ, ◌≤◌, Bool, List, [], ◌∷◌, ◌++◌, length, take, drop, refl, sym, ap, subst, ◌∙◌, arith}
 use Rattle.std.proofs.lemmas.List.{drop-append-le, take-append-le, take-append-drop}
 use Rattle.std.proofs.Math.Seq.{drop-length, take-length}
-use Rattle.cb_model.specs.Bits.{Each}
 use Rattle.cb_dd.specs.declared.Node.{Node}
 use Rattle.cb_dd.specs.declared.Triple.{Triple}
-use Rattle.cb_dd.specs.Diagram.{Store, IsNode}
+use Rattle.cb_dd.specs.Diagram.{Store}
 use Rattle.cb_ops.specs.Ops.{Grows}
 use Rattle.cb_trail.specs.declared.uses.Use.{Use}
 use Rattle.cb_trail.specs.Uses.{StaysUsed}
 use Rattle.cb_elim.specs.declared.Change.{Change}
-use Rattle.cb_elim.specs.Store.{Seen, IsStore, IsAsBefore, OnlyNodes, AreThere}
-use Rattle.cb_elim.specs.Moments.{Moment, IsMoment, changes_from, reverted, undone}
+use Rattle.cb_elim.specs.Store.{Seen, IsStore, OnlyNodes, AreThere}
+use Rattle.cb_elim.specs.Moments.{Moment, IsMoment, changes_from, undone}
 use Rattle.cb_elim.specs.Equation.{AreGeneral, AreRewritten, GeneralRoom, MovedRoom, SidesRoom}
 use Rattle.cb_elim.proofs.Rooms.{general-first, general-second}
 use Rattle.cb_ops.specs.Substitute.{Images}
@@ -20,7 +19,7 @@ use Rattle.cb_elim.specs.Watch.{AreWatched, Covers, IsWatched, KeepsUses, UsesNe
 use Rattle.cb_elim.proofs.Views.{only-nodes}
 use Rattle.cb_elim.proofs.Changes.{undone-from}
 use Rattle.cb_elim.proofs.Back.{take-undone}
-use Rattle.cb_elim.proofs.Covering.{covers-back, covers-cut, covers-grown, covers-push, covers-uses, each-take, undone-there}
+use Rattle.cb_elim.proofs.Covering.{covers-back, covers-cut, covers-grown, covers-push, covers-uses}
 
 -- what was cut off is gone
 pub cut-triples : (s t : Store) → Grows s t → (n : ℕ) → n ≡ length s.triples → (us : List Triple) → us ≡ take n t.triples → us ≡ s.triples

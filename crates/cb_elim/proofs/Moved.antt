@@ -1,5 +1,5 @@
 -- The slots' values with the images put in, one slot after another.
-use Rattle.std.proofs.Common.{◌≡◌, ◌≢◌, ◌⊎◌, inl, inr, ℕ, zero, suc, ◌+◌, ◌*◌, ◌<◌, ◌≤◌, ◌^◌, Bool, if◌then◌else◌, nat_eq, List, [], ◌∷◌, ◌++◌, length, take, drop, map, get_or, refl, sym, ap, subst, ◌∙◌, arith, append_assoc}
+use Rattle.std.proofs.Common.{◌≡◌, ◌⊎◌, inl, inr, ℕ, zero, suc, ◌+◌, ◌<◌, ◌≤◌, Bool, if◌then◌else◌, nat_eq, List, [], ◌∷◌, ◌++◌, length, take, map, get_or, refl, sym, ap, subst, ◌∙◌, arith, append_assoc}
 use Rattle.std.specs.Prelude.{slice_set}
 use Rattle.std.specs.List.Sorted.{IsStrictlyIncreasing}
 use Rattle.std.proofs.lemmas.Bool.{cases_Bool, cases_eq, cases_lt, eq-eqb, eqb-true, ne_eqb, true≢false}
@@ -23,12 +23,12 @@ use Rattle.cb_trail.specs.Uses.{IsUsed}
 use Rattle.cb_elim.specs.declared.Change.{Change}
 use Rattle.cb_elim.specs.Store.{AreThere, value_in}
 use Rattle.cb_elim.specs.Moments.{change_at, changes_from, undone}
-use Rattle.cb_elim.specs.Equation.{AreMoved, AreRewritten, IsStepped, MovedRoom}
+use Rattle.cb_elim.specs.Equation.{AreMoved, AreRewritten, IsStepped}
 use Rattle.cb_elim.specs.Watch.{AreWatched, Covers, IsDead, KeepsUses, UsesNew}
 use Rattle.cb_elim.proofs.Views.{changed-still, value-still, there-still}
 use Rattle.cb_elim.proofs.Changes.{changes-same, changes-write}
 use Rattle.cb_elim.proofs.Falling.{listed-either, listed-left, listed-one, listed-right}
-use Rattle.cb_elim.proofs.Rooms.{MovedSo, moved-none, moved-one, moved-all}
+use Rattle.cb_elim.proofs.Rooms.{MovedSo, moved-none, moved-one}
 use Rattle.cb_elim.proofs.Covering.{covers-grown, covers-uses, covers-write, dead-alike, each-more, set-there, used-later, value-past, value-read, value-set-other, value-set-own}
 
 -- ---- the first so many slots of a rising list
@@ -75,9 +75,9 @@ number-below xs (suc k) rise h =
 pub levels-cases : (xs : Images) (i : ℕ) (d : ℕ × Node) (k : ℕ) → i < length xs → IsListed (map (λ q. q.0) (take (i + 1) xs)) k → IsListed (map (λ q. q.0) (take i xs)) k ⊎ (k ≡ (get_or xs i d).0)
 levels-cases xs i d k h there = elim (listed-either (map (λ q. q.0) (take i xs)) ((get_or xs i d).0 ∷ []) k
     (subst (λ zs. IsListed zs k) (map-append (λ q. q.0) (take i xs) (get_or xs i d ∷ [])) (subst (λ (zs : Images). IsListed (map (λ q. q.0) zs) k) (take_more xs i d h) there))) [
-  | inl before ↦ inl before
-  | inr here ↦ inr (listed-one (get_or xs i d).0 k here)
-]
+      | inl before ↦ inl before
+      | inr here ↦ inr (listed-one (get_or xs i d).0 k here)
+    ]
 
 pub levels-all : (xs : Images) (i k : ℕ) → i ≡ length xs → IsListed (map (λ q. q.0) xs) k → IsListed (map (λ q. q.0) (take i xs)) k
 levels-all xs i k e h = subst (λ (zs : Images). IsListed (map (λ q. q.0) zs) k) (sym (ap (λ j. take j xs) e ∙ take-length xs)) h

@@ -13,13 +13,13 @@ use Rattle.cb_dd.specs.Diagram.{Store, IsNode, function_of}
 use Rattle.cb_ops.specs.Ops.{Grows, StandsFor, Room, DependsOn}
 use Rattle.cb_ops.specs.Support.{IsListed}
 use Rattle.cb_ops.specs.Substitute.{Images, AreNodes, SubstituteRoom}
-use Rattle.cb_ops.proofs.Ite.{without, without-lt, grown-depends, Grows-then}
+use Rattle.cb_ops.proofs.Ite.{without, without-lt, grown-depends}
 use Rattle.cb_ops.proofs.Substitute.{image-node}
 use Rattle.cb_boole.specs.Elimination.{Function, DependsOnly, solved}
 use Rattle.cb_boole.proofs.Only.{solved_alike}
 use Rattle.cb_boole.proofs.Point.{put_other}
 use Rattle.cb_boole.proofs.Bounds.{four_next}
-use Rattle.cb_solution.specs.Solution.{IsFalling, IsSolution, ImagesWithin, SolutionRoom, has_refused}
+use Rattle.cb_solution.specs.Solution.{IsFalling, ImagesWithin, SolutionRoom, has_refused}
 use Rattle.cb_solution.proofs.Solved.{at-some, image-listed, listed-here, listed-there, listed-cases, only-from, only-into}
 use Rattle.cb_elim.specs.Store.{Seen, IsAsBefore, OnlyNodes, AreThere}
 use Rattle.cb_elim.specs.Unified.{UnifyCause}

@@ -230,7 +230,15 @@ impl Store {
         ensures store { IsStore self.new }
     {
         let slot = self.slots.len();
-        note(&self.ops, self.constants, &mut self.uses, Node::ZERO, f, slot, 0)?;
+        note(
+            &self.ops,
+            self.constants,
+            &mut self.uses,
+            Node::ZERO,
+            f,
+            slot,
+            0,
+        )?;
         self.slots.push(f)?;
         Ok(Slot(slot))
     }
@@ -345,7 +353,15 @@ impl Store {
         let level = self.drawn;
         let slot = self.slots.len();
         let node = self.ops.node(level, Node::ZERO, Node::ONE)?;
-        let Ok(()) = note(&self.ops, self.constants, &mut self.uses, Node::ZERO, node, slot, 0) else {
+        let Ok(()) = note(
+            &self.ops,
+            self.constants,
+            &mut self.uses,
+            Node::ZERO,
+            node,
+            slot,
+            0,
+        ) else {
             self.ops.cut(before);
             return Err(Stop::Memory);
         };
@@ -441,7 +457,15 @@ impl Store {
         ensures fulls { self.new.nodes.fulls ≡ has_refused self.old.nodes.fulls result }
     {
         let alloc = *self.slots.allocator();
-        let Ok(()) = watch(alloc, &self.ops, self.constants, &self.slots, &self.trail, &mut self.uses, self.lent) else {
+        let Ok(()) = watch(
+            alloc,
+            &self.ops,
+            self.constants,
+            &self.slots,
+            &self.trail,
+            &mut self.uses,
+            self.lent,
+        ) else {
             return Err(Stop::Memory);
         };
         self.lent = false;

@@ -37,7 +37,14 @@ pub(crate) fn note(
 {
     let before = ops.support(old)?;
     let levels = ops.support(new)?;
-    add_uses(uses, constants, before.as_slice(), levels.as_slice(), slot, since)?;
+    add_uses(
+        uses,
+        constants,
+        before.as_slice(),
+        levels.as_slice(),
+        slot,
+        since,
+    )?;
     Ok(())
 }
 
@@ -55,7 +62,11 @@ fn add_uses(
 {
     for level in levels {
         if is_gained(constants, before, *level) {
-            uses.add(Use { level: *level, slot, since })?;
+            uses.add(Use {
+                level: *level,
+                slot,
+                since,
+            })?;
         }
     }
     Ok(())
@@ -114,7 +125,15 @@ fn noted(
     }
     for k in 0..trail.mark() {
         if let Some(change) = trail.get(k) {
-            note(ops, constants, &mut uses, Node::ZERO, change.value, change.slot, 0)?;
+            note(
+                ops,
+                constants,
+                &mut uses,
+                Node::ZERO,
+                change.value,
+                change.slot,
+                0,
+            )?;
         }
     }
     Ok(uses)

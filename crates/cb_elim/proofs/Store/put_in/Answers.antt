@@ -1,4 +1,4 @@
-use Rattle.std.proofs.Common.{◌≡◌, ℕ, ◌+◌, ◌<◌, ◌≤◌, false, inr, List, ◌++◌, length, take, drop, map, subst, sym, ap, ◌∙◌, arith, rules, length-append}
+use Rattle.std.proofs.Common.{◌≡◌, ℕ, ◌<◌, ◌≤◌, false, inr, List, ◌++◌, length, take, drop, map, subst, sym, ap, ◌∙◌, arith, rules, length-append}
 use Rattle.cb_model.specs.Bits.{Each}
 use Rattle.cb_dd.specs.declared.Node.{Node}
 use Rattle.cb_ops.specs.Support.{IsListed}

@@ -1,5 +1,3 @@
-use Rattle.std.proofs.Common.{◌≡◌, ap, ◌∙◌, arith}
-use Rattle.cb_elim.specs.Store.{Seen}
 use Rattle.cb_elim.proofs.Inside.{seen}
 use Rattle.cb_elim.proofs.Views.{only-nodes, store-grown}
 use Rattle.cb_elim.proofs.Kept.{solve-first, solve-second, watched-grown}

@@ -1,5 +1,3 @@
-use Rattle.cb_solution.specs.Solution.{HasRest, IsSolution}
-use Rattle.cb_elim.specs.Equation.{AreGeneral, HasNoSolution}
 use Rattle.cb_elim.proofs.General.{none-at, general-images, none-then, some-then}
 use Rattle.cb_elim.proofs.Rooms.{sides-first, sides-second}
 use Rattle.cb_ops.proofs.Ite.{Grows-same}

@@ -1,4 +1,4 @@
-use Rattle.std.proofs.Common.{◌≡◌, ℕ, ◌≤◌, inl, inr, List, get_or, subst, sym, ap, ◌∙◌, arith}
+use Rattle.std.proofs.Common.{◌≡◌, ℕ, ◌≤◌, inl, inr, List, get_or, subst, sym, arith}
 use Rattle.cb_ops.specs.Support.{IsListed}
 use Rattle.cb_trail.specs.declared.uses.Use.{Use}
 use Rattle.cb_trail.specs.Uses.{IsUsed}

@@ -1,8 +1,7 @@
-use Rattle.std.proofs.Common.{◌≡◌, inl, inr, ℕ, ◌<◌, ◌≤◌, length, get_or, subst, sym, arith}
+use Rattle.std.proofs.Common.{◌≡◌, inl, inr, ◌≤◌, length, get_or, subst, sym, arith}
 use Rattle.std.proofs.lemmas.Bool.{cases_lt}
 use Rattle.std.proofs.lemmas.List.{get_or_default}
 use Rattle.cb_dd.specs.declared.Node.{Node}
-use Rattle.cb_elim.specs.declared.Change.{Change}
 use Rattle.cb_elim.specs.Watch.{UsesNew}
 use Rattle.cb_elim.proofs.Moved.{there-at}
 use Rattle.cb_elim.proofs.Noting.{each-all, each-at, each-map, each-next, each-none, each-past, uses-kept}
@@ -34,16 +33,16 @@ note-requires-in-Some-clause-new c = each-at _ c.args.trail.now c.loop-k.k c.in-
 pub loop-k-preserved : goal.loop-k-preserved
 loop-k-preserved c = elim c.match-get.branch [
   | in-Some+in_ok-note-2 w ↦ rw w.uses-is (record {
-      slots = λ x d less. uses-kept c.args.ops.now.triples c.args.constants 0 (get_or c.args.slots.now x d).0 x 0 c.loop-k.uses w.note-in-Some.new.uses w.note-in-Some.ensures.kept (c.loop-k.invariant.slots x d less);
-      changes = each-next (λ h. UsesNew c.args.ops.now.triples c.args.constants w.note-in-Some.new.uses 0 h.value.0 h.slot 0) c.args.trail.now c.loop-k.k w.in-Some.change.now (sym w.in-Some.ensures)
-          (each-map (λ h. UsesNew c.args.ops.now.triples c.args.constants c.loop-k.uses 0 h.value.0 h.slot 0) (λ h. UsesNew c.args.ops.now.triples c.args.constants w.note-in-Some.new.uses 0 h.value.0 h.slot 0) _
-          (λ h. uses-kept c.args.ops.now.triples c.args.constants 0 h.value.0 h.slot 0 c.loop-k.uses w.note-in-Some.new.uses w.note-in-Some.ensures.kept) c.loop-k.invariant.changes)
-          w.in_ok-note-2.ensures.used;
-    })
+    slots = λ x d less. uses-kept c.args.ops.now.triples c.args.constants 0 (get_or c.args.slots.now x d).0 x 0 c.loop-k.uses w.note-in-Some.new.uses w.note-in-Some.ensures.kept (c.loop-k.invariant.slots x d less);
+    changes = each-next (λ h. UsesNew c.args.ops.now.triples c.args.constants w.note-in-Some.new.uses 0 h.value.0 h.slot 0) c.args.trail.now c.loop-k.k w.in-Some.change.now (sym w.in-Some.ensures)
+        (each-map (λ h. UsesNew c.args.ops.now.triples c.args.constants c.loop-k.uses 0 h.value.0 h.slot 0) (λ h. UsesNew c.args.ops.now.triples c.args.constants w.note-in-Some.new.uses 0 h.value.0 h.slot 0) _
+        (λ h. uses-kept c.args.ops.now.triples c.args.constants 0 h.value.0 h.slot 0 c.loop-k.uses w.note-in-Some.new.uses w.note-in-Some.ensures.kept) c.loop-k.invariant.changes)
+        w.in_ok-note-2.ensures.used;
+  })
   | in_default w ↦ rw w.uses-is (record {
-      slots = c.loop-k.invariant.slots;
-      changes = each-past (λ h. UsesNew c.args.ops.now.triples c.args.constants c.loop-k.uses 0 h.value.0 h.slot 0) c.args.trail.now c.loop-k.k (sym (rw w.in_default.is at c.get.ensures)) c.loop-k.invariant.changes;
-    })
+    slots = c.loop-k.invariant.slots;
+    changes = each-past (λ h. UsesNew c.args.ops.now.triples c.args.constants c.loop-k.uses 0 h.value.0 h.slot 0) c.args.trail.now c.loop-k.k (sym (rw w.in_default.is at c.get.ensures)) c.loop-k.invariant.changes;
+  })
 ]
 
 pub returns : goal.returns

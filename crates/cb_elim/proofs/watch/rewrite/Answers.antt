@@ -1,5 +1,4 @@
-use Rattle.std.proofs.Common.{◌≡◌, ◌∙◌, ◌+◌, ◌<◌, length, get_or, refl, subst, sym, arith}
-use Rattle.cb_ops.proofs.Ite.{Grows-then}
+use Rattle.std.proofs.Common.{◌+◌, ◌<◌, length, get_or, refl, arith}
 use Rattle.cb_ops.proofs.Substitute.{grown-nodes}
 use Rattle.cb_solution.proofs.Solved.{listed-at}
 use Rattle.cb_elim.proofs.Rooms.{moved-all}

@@ -1,4 +1,4 @@
-use Rattle.std.proofs.Common.{◌≡◌, ◌+◌, ◌≤◌, [], ◌∷◌, ◌++◌, length, get_or, arith}
+use Rattle.std.proofs.Common.{◌≡◌, ◌+◌, [], ◌∷◌, ◌++◌, length, get_or, arith}
 use Rattle.std.proofs.lemmas.Grind.{common_steps}
 use Rattle.cb_elim.proofs.Moved.{are-still, are-uses, are-written, stepped-more, stepped-same, uses-later}
 use Rattle.cb_elim.proofs.watch.rewrite_one.Goals as goal
