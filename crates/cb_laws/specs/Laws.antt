@@ -14,7 +14,7 @@ use Rattle.cb_model.specs.Output.{Loaded, IsLoaded, IsQuery}
 use Rattle.cb_model.specs.Bits.{Bits, Each, bits_of, some_bits, every_bits, xor}
 use Rattle.cb_model.specs.Text.{Text}
 use Rattle.cb_model.specs.Values.{Admitted, World, expr_value, in_scope, tree_in_scope}
-use Rattle.cb_model.specs.Equations.{Item, Pair, Solvable, Refuted, Table, ReadsBelow}
+use Rattle.cb_model.specs.Equations.{Item, Pair, Solvable, Refuted, Table, ReadsBelow, Substitution, Solves}
 use Rattle.cb_model.specs.Program.{Program}
 use Rattle.cb_model.specs.Derivation.{Ready, Entry, Branch, Step, Query, Note, End, Plain, SoFar, printed_of}
 use Rattle.cb_model.specs.Answers.{leaves, IsShape, Gives, Denotes}
@@ -65,6 +65,10 @@ SolvableDecided = (w : World) (c v : ℕ) (es : List Equal) → pairs_in_scope c
 abbrev pub SolvableByTablesBelow : Type 0
 SolvableByTablesBelow = (w : World) (c v : ℕ) (es : List Equal) → pairs_in_scope c v es ≡ true →
     Solvable w (map pair_item es) ↔ ((x : ℕ → Table) × ((n : ℕ) → ReadsBelow c (x n)) × SolvesAll es x)
+
+-- equations of all sorts and circuit items that have a solution in the algebra are solvable
+abbrev pub SolutionGivesValues : Type 0
+SolutionGivesValues = (w : World) (es : List Item) (s : Substitution) → Solves w es s → Solvable w es
 
 -- ---- the derivation
 

@@ -1,7 +1,7 @@
 //! Laws of the definitions: each is the contract of a function that does nothing.
 #![tactic(auto)]
 
-ghost use Rattle.cb_laws.specs.Laws.{SolvableByTables, SolvableDecided, SolvableByTablesBelow, ReadyStays, StepDetermined, RunDetermined, SameBeginning, SamePrints, PrintedAreSolvable, PrintedDenote, FormDenotes, DirectivesCount, ClausesFit, TreesFit, TreesInScope, ChainsHaveOperands, ShapeIsOne, LineIsOne, RoomIsOne, RoomOfNone, TokenLines, ReadingIsWritten, ClausesAreOne, QueriesAreOne};
+ghost use Rattle.cb_laws.specs.Laws.{SolvableByTables, SolvableDecided, SolvableByTablesBelow, SolutionGivesValues, ReadyStays, StepDetermined, RunDetermined, SameBeginning, SamePrints, PrintedAreSolvable, PrintedDenote, FormDenotes, DirectivesCount, ClausesFit, TreesFit, TreesInScope, ChainsHaveOperands, ShapeIsOne, LineIsOne, RoomIsOne, RoomOfNone, TokenLines, ReadingIsWritten, ClausesAreOne, QueriesAreOne};
 
 /// Boolean equations are solvable exactly where they have a solution in the algebra (Boole).
 pub fn solvable_by_tables()
@@ -17,6 +17,11 @@ pub fn solvable_decided()
 /// these constants.
 pub fn solvable_by_tables_below()
     ensures { SolvableByTablesBelow }
+{}
+
+/// Equations of all sorts and circuit items that have a solution in the algebra are solvable.
+pub fn solution_gives_values()
+    ensures { SolutionGivesValues }
 {}
 
 /// A goal that is ready stays ready after more equations.

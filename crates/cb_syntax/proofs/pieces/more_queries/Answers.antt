@@ -7,7 +7,7 @@ use Rattle.cb_syntax.specs.Steps.{rest}
 use Rattle.cb_syntax.proofs.Folds.{pushed_by}
 use Rattle.cb_syntax.proofs.Whole.{queries_start}
 use Rattle.cb_syntax.proofs.ClauseMoves.{pieces_more, pieces_stop, pieces_done}
-use Rattle.cb_syntax.proofs.pieces.queries.Goals as goal
+use Rattle.cb_syntax.proofs.pieces.more_queries.Goals as goal
 
 pub loop-first-preserved : goal.loop-first-preserved
 loop-first-preserved c =

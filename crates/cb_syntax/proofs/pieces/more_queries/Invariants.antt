@@ -4,7 +4,7 @@ use Rattle.cb_model.specs.Grammar.{ReadsQuery}
 use Rattle.cb_syntax.specs.Machine.{Queries}
 use Rattle.cb_syntax.specs.Steps.{rest}
 use Rattle.cb_syntax.proofs.ClauseMoves.{PiecesSoFar}
-use Rattle.cb_syntax.proofs.pieces.queries.Given as goal
+use Rattle.cb_syntax.proofs.pieces.more_queries.Given as goal
 
 abbrev pub invariant-loop-first : goal.invariant-loop-first
 invariant-loop-first l = PiecesSoFar ReadsQuery (Queries ∷ []) (rest l.tokens 0) (rest l.tokens l.left) (map query_form l.found.items)
