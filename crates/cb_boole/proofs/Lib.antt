@@ -8,3 +8,9 @@ pub mod Grow
 pub mod Known
 pub mod Bounds
 pub mod Laws
+pub mod Picking
+pub mod Stages
+pub mod Shown
+pub mod Denoting
+pub mod Form
+pub mod Leaves

@@ -1,7 +1,7 @@
 //! The products of a node of a diagram: the ways from it to 1, one after another.
 #![tactic(auto)]
 
-ghost use Rattle.std.specs.Prelude.{◌≡◌, ◌≢◌, ℕ, ◌+◌, ◌<◌, ◌≤◌, ◌^◌, ◌↔◌, [], ◌∷◌, List, length, Some, None, Ok, IfOk, IsTrue, IsFalse, vec_capacity, min};
+ghost use Rattle.std.specs.Prelude.{◌≡◌, ◌≢◌, ℕ, suc, ◌+◌, ◌*◌, ◌<◌, ◌≤◌, ◌^◌, ◌↔◌, [], ◌∷◌, List, length, Some, None, Ok, IfOk, IsTrue, IsFalse, OnOk, vec_capacity, min, max};
 ghost use Rattle.std.specs.List.Sorted.{IsStrictlyIncreasing};
 ghost use Rattle.cb_model.specs.Bits.{Bits};
 ghost use Rattle.cb_model.specs.Answers.{paths};
@@ -9,13 +9,13 @@ ghost use Rattle.cb_dd.specs.Diagram.{IsNode, function_of, level_of};
 ghost use Rattle.cb_ops.specs.Ops.{DependsOn};
 ghost use Rattle.cb_paths.specs.Walk.{Walk, IsWalk, after, to_come};
 ghost use Rattle.cb_paths.specs.Products.{products_of};
-ghost use Rattle.cb_paths.specs.Counted.{IsCount, AllCounted};
+ghost use Rattle.cb_paths.specs.Counted.{IsCount, AreCapped, AreEntries, through, above};
 ghost use Rattle.cb_dd.specs.declared.Triple.{Triple};
 
 use cb_dd::Node;
 use cb_ops::Ops;
-use indexmap::IndexMap;
 use std::alloc::{AllocError, Global};
+use std::collections::BTreeMap;
 use std::marker::Model;
 
 /// The products of a node that are still to come, in order. A product is a way from the node to 1: its levels rise,
@@ -112,40 +112,51 @@ pub fn count(alloc: Global, ops: &Ops, f: Node, most: u32) -> Result<Option<u32>
         → IsCount (length (paths (function_of ops.now.triples f.0) env levels)) most n) }
 {
     let _count = ops.count();
-    let mut done = IndexMap::new(alloc);
-    let n = count_in(ops, f, most as u64 + 1, &mut done)?;
+    let n = products(alloc, ops, f, most as u64 + 1)?;
     if n > most as u64 {
         return Ok(None);
     }
     Ok(Some(n as u32))
 }
 
-// How many products the node has, or the limit where they are as many or more; with the nodes that were counted.
-fn count_in(
-    ops: &Ops,
-    f: Node,
-    limit: u64,
-    done: &mut IndexMap<Node, u64>,
-) -> Result<u64, AllocError>
+// How many products the node has, or the limit where they are as many or more. It goes over the nodes from the greatest
+// number down, so that all ways to a node are there before its children are reached.
+fn products(alloc: Global, ops: &Ops, f: Node, limit: u64) -> Result<u64, AllocError>
     requires node { IsNode ops.now.triples f.0 }
     requires some { 0 < limit }
     requires small { limit ≤ 2 ^ 32 }
-    requires done { AllCounted done.old ops.now.triples limit }
     ensures counted { IfOk result (λ n. n ≡ min (length (products_of ops.now.triples f.0)) limit) }
-    ensures done { AllCounted done.new ops.now.triples limit }
 {
     let _count = ops.count();
-    let Some((_, lo, hi)) = ops.parts(f) else {
-        return Ok(f.0 as u64);
-    };
-    if let Some(n) = done.get(&f) {
-        return Ok(*n);
+    let mut ways = BTreeMap::new(alloc);
+    let mut found = 0u64;
+    ways.insert(f.0, 1)?;
+    'pass: while let Some((n, times)) = ways.pop_last() {
+        match ops.parts(Node(n)) {
+            Some((_, lo, hi)) => {
+                add(&mut ways, lo.0, times, limit)?;
+                add(&mut ways, hi.0, times, limit)?;
+            }
+            None => found = (found + times * (n as u64)).min(limit),
+        }
     }
-    let low = count_in(ops, lo, limit, done)?;
-    let high = count_in(ops, hi, limit, done)?;
-    let n = (low + high).min(limit);
-    done.insert(f, n)?;
-    Ok(n)
+    Ok(found)
+}
+
+// Adds so many ways to a node, up to the limit.
+fn add(ways: &mut BTreeMap<usize, u64>, n: usize, times: u64, limit: u64) -> Result<(), AllocError>
+    requires small { limit ≤ 2 ^ 32 }
+    requires times { times ≤ limit }
+    requires capped { AreCapped limit ways.old.entries }
+    ensures through { OnOk result ((ts : List Triple) (more : ℕ) → min (more + through ts ways.new.entries) limit
+        ≡ min (more + (through ts ways.old.entries + times * length (products_of ts n))) limit) }
+    ensures nodes { OnOk result ((ts : List Triple) → AreEntries ts ways.old.entries → IsNode ts n → AreEntries ts ways.new.entries) }
+    ensures capped { OnOk result (AreCapped limit ways.new.entries) }
+    ensures above { OnOk result (above ways.new.entries ≤ max (suc n) (above ways.old.entries)) }
+{
+    let before = ways.get(&n).copied().unwrap_or(0);
+    ways.insert(n, (before + times).min(limit))?;
+    Ok(())
 }
 
 // The node from which the next product goes on: the given one, or where it is 0 the other side of the last literal at
@@ -196,50 +207,5 @@ fn descend(ops: &Ops, from: Node, literals: &mut Vec<(u32, bool)>, others: &mut 
         n = next;
         let _ = literals.push((level, bit));
         let _ = others.push(other);
-    }
-}
-
-#[cfg(test)]
-mod tests {
-    use super::*;
-    use std::test::Fail;
-
-    fn is_here(ops: &Ops, n: Node) -> bool
-        ensures { IsTrue result ↔ IsNode ops.now.triples n.0 }
-    {
-        n.0 < ops.count() + 2
-    }
-
-    // A store with the bits at levels 0 and 1.
-    fn two_bits(alloc: Global) -> Result<(Ops, Node, Node), Fail>
-        ensures { IfOk result (λ p. IsNode p.0.triples p.1.0 × IsNode p.0.triples p.2.0) }
-    {
-        let mut ops = Ops::new(alloc, 100)?;
-        let x = ops.node(0, Node::ZERO, Node::ONE)?;
-        let y = ops.node(1, Node::ZERO, Node::ONE)?;
-        Ok((ops, x, y))
-    }
-
-    // Whether this is the next product.
-    fn gives(products: &mut Paths<'_>, product: &[(u32, bool)]) -> bool {
-        match products.next() {
-            Some(literals) => literals == product,
-            None => false,
-        }
-    }
-
-    #[test]
-    fn lists_the_products_of_or(rt: HostRuntime) -> Result<(), Fail> {
-        let (mut ops, x, y) = two_bits(rt.alloc())?;
-        let either = ops.or(x, y)?;
-        assert!(rt; is_here(&ops, either));
-        let mut products = Paths::new(rt.alloc(), &ops, either)?;
-        assert!(rt; gives(&mut products, &[(0, false), (1, true)]));
-        assert!(rt; gives(&mut products, &[(0, true)]));
-        assert!(rt; products.next().is_none());
-        assert!(rt; products.next().is_none());
-        assert_eq!(rt; count(rt.alloc(), &ops, either, 2), Ok(Some(2)));
-        assert_eq!(rt; count(rt.alloc(), &ops, either, 1), Ok(None));
-        Ok(())
     }
 }

@@ -1,1 +1,5 @@
+pub mod Levels
+pub mod Nodes
+pub mod Steps
+pub mod Whole
 pub mod Slots

@@ -16,9 +16,9 @@ use Rattle.cb_elim.specs.Store.{Seen, IsStore, IsArgument, view_of, value_in, st
 use Rattle.cb_elim.specs.Moments.{KeepsMoments}
 use Rattle.cb_elim.proofs.Back.{Later, keeps, store-drawn, argument-drawn}
 use Rattle.cb_elim.proofs.Views.{store-still, argument-still}
-use Rattle.cb_parameters.specs.Parametric.{Reaches, Allows, values_at}
-use Rattle.cb_parameters.proofs.Shown.{reaches_allows, gen_same}
-use Rattle.cb_leaves.specs.Leaves.{functions_of, AllNodes, AllBelow, AllDepend, AreParametric, ParametricRoom, ParametricCause}
+use Rattle.cb_boole.specs.Parametric.{Reaches, Allows, values_at}
+use Rattle.cb_boole.proofs.Shown.{reaches_allows, gen_same}
+use Rattle.cb_project.specs.Leaves.{functions_of, AllNodes, AllBelow, AllDepend, AreParametric, ParametricRoom, ParametricCause}
 use Rattle.cb_project.specs.Answer.{AreSlots, slot_nodes, slot_values, IsAnswer}
 
 -- ---- the values
@@ -174,4 +174,4 @@ module _ (s s1 : Seen) (m : ℕ) (e : s1 ≡ record s { drawn = s.drawn + m }) (
         (subst (λ (ns : List Node). AreParametric c first (functions_of t0.triples ns) gens) values-are is)))
 
 pub room-none : (values : List Node) (s : Store) → ParametricRoom values s s
-room-none values s = Rattle.cb_leaves.proofs.Whole.whole-room s s values 0 (omega arith) (λ ls d. omega arith)
+room-none values s = Rattle.cb_project.proofs.Whole.whole-room s s values 0 (omega arith) (λ ls d. omega arith)

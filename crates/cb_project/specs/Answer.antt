@@ -7,7 +7,7 @@ use Rattle.cb_boole.specs.Elimination.{Function}
 use Rattle.cb_boole.specs.View.{View}
 use Rattle.cb_elim.specs.declared.Slot.{Slot}
 use Rattle.cb_elim.specs.Store.{Seen, view_of, value_in}
-use Rattle.cb_parameters.specs.Parametric.{Allows, values_at}
+use Rattle.cb_boole.specs.Parametric.{Allows, values_at}
 
 -- the slots are there
 abbrev pub AreSlots : Seen → List Slot → Type 0

@@ -6,15 +6,17 @@ ghost use Rattle.cb_dd.specs.Diagram.{IsNode};
 ghost use Rattle.cb_ops.specs.Ops.{Grows};
 ghost use Rattle.cb_elim.specs.Store.{IsArgument, IsStore};
 ghost use Rattle.cb_elim.specs.Moments.{KeepsMoments};
-ghost use Rattle.cb_parameters.specs.Stages.{AreOwn};
-ghost use Rattle.cb_leaves.specs.Leaves.{functions_of, AllNodes, ParametricCause, ParametricRoom};
+ghost use Rattle.cb_boole.specs.Stages.{AreOwn};
+ghost use Rattle.cb_project.specs.Leaves.{functions_of, AllNodes, ParametricCause, ParametricRoom};
 ghost use Rattle.cb_project.specs.Answer.{AreSlots, IsAnswer, slot_nodes};
 
 use cb_dd::{Node, Stop};
 use cb_elim::{Slot, Store};
-use cb_leaves::leaf_nodes;
+use leaves::leaf_nodes;
 use sqlite_items::Items;
 use std::alloc::Global;
+
+mod leaves;
 
 /// The parametric form of an answer.
 #[derive(Debug, Drop)]
@@ -74,34 +76,4 @@ pub fn general(alloc: Global, store: &mut Store, leaves: &[Slot]) -> Result<Proj
         first,
         nodes: Items::from_vec(nodes),
     })
-}
-
-#[cfg(test)]
-mod tests {
-    use super::*;
-    use std::test::Fail;
-
-    // The parametric form of one variable, free or made equal to the constant.
-    fn one_leaf(alloc: Global, bound: bool) -> Result<Projected, Stop> {
-        let Ok(mut store) = Store::new(alloc, 1, 100) else {
-            return Err(Stop::Memory);
-        };
-        let slot = store.variable()?;
-        if bound {
-            let a = store.constant(0)?;
-            let x = store.value(slot);
-            let _solved = store.unify(x, a)?;
-        }
-        general(alloc, &mut store, &[slot])
-    }
-
-    #[test]
-    fn gives_a_node_for_the_leaf(rt: HostRuntime) -> Result<(), Fail> {
-        let free = one_leaf(rt.alloc(), false)?;
-        assert_eq!(rt; free.first, 2);
-        assert_eq!(rt; free.nodes.len(), 1);
-        let bound = one_leaf(rt.alloc(), true)?;
-        assert_eq!(rt; bound.nodes.len(), 1);
-        Ok(())
-    }
 }

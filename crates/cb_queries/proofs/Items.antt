@@ -7,7 +7,7 @@ use Rattle.cb_dd.specs.declared.Triple.{Triple}
 use Rattle.cb_dd.specs.declared.Node.{Node}
 use Rattle.cb_dd.specs.Diagram.{function_of}
 use Rattle.cb_ops.specs.Ops.{DependsOn}
-use Rattle.cb_leaves.specs.Leaves.{functions_of}
+use Rattle.cb_project.specs.Leaves.{functions_of}
 use Rattle.cb_show.specs.Levels.{levels, node_text}
 use Rattle.cb_sorts.specs.Source.{Source}
 use Rattle.cb_sorts.specs.Asked.{Asked}

@@ -11,8 +11,8 @@ use Rattle.cb_boole.specs.View.{View, InRange, point}
 use Rattle.cb_elim.specs.Store.{Seen, view_of}
 use Rattle.cb_elim.proofs.Equations.{reproductive}
 use Rattle.cb_show.specs.Levels.{spread}
-use Rattle.cb_parameters.specs.Parametric.{values_at, Allows as Shows}
-use Rattle.cb_parameters.proofs.Shown.{gen_same}
+use Rattle.cb_boole.specs.Parametric.{values_at, Allows as Shows}
+use Rattle.cb_boole.proofs.Shown.{gen_same}
 use Rattle.cb_project.specs.Answer.{slot_values}
 use Rattle.cb_equations.specs.Lines.{Allows, printed_numbers}
 use Rattle.cb_boolean.specs.Systems.{IsSolvedBy}

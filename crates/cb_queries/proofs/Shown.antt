@@ -5,7 +5,7 @@ use Rattle.std.proofs.lemmas.List.{length-map}
 use Rattle.cb_model.specs.Text.{Text, lines_text}
 use Rattle.cb_dd.specs.declared.Node.{Node}
 use Rattle.cb_dd.specs.Diagram.{Store, function_of}
-use Rattle.cb_leaves.specs.Leaves.{functions_of}
+use Rattle.cb_project.specs.Leaves.{functions_of}
 use Rattle.cb_elim.specs.declared.Slot.{Slot}
 use Rattle.cb_elim.specs.Store.{Seen, IsStore}
 use Rattle.cb_project.specs.Answer.{IsAnswer}

@@ -13,8 +13,8 @@ use Rattle.cb_dd.specs.declared.Node.{Node}
 use Rattle.cb_dd.specs.Diagram.{IsNode, function_of}
 use Rattle.cb_ops.specs.Ops.{Agree, DependsOn}
 use Rattle.cb_boole.specs.Elimination.{AreAlike, DependsOnly}
-use Rattle.cb_parameters.specs.Stages.{IsSettled, AreOwn}
-use Rattle.cb_leaves.specs.Leaves.{functions_of, AllNodes}
+use Rattle.cb_boole.specs.Stages.{IsSettled, AreOwn}
+use Rattle.cb_project.specs.Leaves.{functions_of, AllNodes}
 use Rattle.cb_show.specs.Levels.{level_at, levels, function_at, node_text}
 use Rattle.cb_show.proofs.Pieces.{each_at}
 use Rattle.cb_equations.specs.Lines.{bits_line}

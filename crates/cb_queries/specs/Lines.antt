@@ -10,8 +10,8 @@ use Rattle.cb_model.specs.Output.{printed_from}
 use Rattle.cb_dd.specs.declared.Triple.{Triple}
 use Rattle.cb_dd.specs.declared.Node.{Node}
 use Rattle.cb_boole.specs.Elimination.{Function}
-use Rattle.cb_parameters.specs.Stages.{AreOwn}
-use Rattle.cb_leaves.specs.Leaves.{functions_of, AllNodes}
+use Rattle.cb_boole.specs.Stages.{AreOwn}
+use Rattle.cb_project.specs.Leaves.{functions_of, AllNodes}
 use Rattle.cb_elim.specs.declared.Slot.{Slot}
 use Rattle.cb_elim.specs.Store.{Seen}
 use Rattle.cb_project.specs.Answer.{IsAnswer}

@@ -2,7 +2,7 @@
 
 ghost use Rattle.std.specs.Prelude.{◌≡◌, ◌<◌, ◌++◌, [], ◌∷◌, length, codes, IfOk, OnOk};
 ghost use Rattle.cb_model.specs.Text.{lines_text};
-ghost use Rattle.cb_leaves.specs.Leaves.{functions_of};
+ghost use Rattle.cb_project.specs.Leaves.{functions_of};
 ghost use Rattle.cb_queries.specs.Lines.{printed_in, item_at, form_line, IsForm};
 
 use crate::names::ProgramNames;

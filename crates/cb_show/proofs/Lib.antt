@@ -3,4 +3,3 @@ pub mod Renamed
 pub mod Pieces
 pub mod Counts
 pub mod Shown
-pub mod Choices

@@ -41,6 +41,3 @@ pub enum ShowError {
     #[error(transparent)]
     Stop(Stop),
 }
-
-#[cfg(test)]
-mod tests;

@@ -3,7 +3,7 @@ use Rattle.std.proofs.lemmas.Result.{err_from_is_err_and}
 use Rattle.cb_dd.specs.declared.Node.{Node}
 use Rattle.cb_dd.specs.Diagram.{Store}
 use Rattle.cb_elim.specs.Store.{Seen}
-use Rattle.cb_leaves.specs.Leaves.{functions_of, ParametricRoom}
+use Rattle.cb_project.specs.Leaves.{functions_of, ParametricRoom}
 use Rattle.cb_project.specs.Answer.{IsAnswer, slot_nodes}
 use Rattle.cb_project.proofs.Slots.{lent-nodes, lent-below, lent-store, lent-argument, lent-moments, lent-room, lent-cause, lent-answer, room-none}
 use Rattle.cb_project.proofs.general.Goals as goal

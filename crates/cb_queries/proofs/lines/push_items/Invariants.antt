@@ -1,5 +1,5 @@
 use Rattle.std.proofs.Common.{◌≡◌, ◌++◌, take}
-use Rattle.cb_leaves.specs.Leaves.{functions_of}
+use Rattle.cb_project.specs.Leaves.{functions_of}
 use Rattle.cb_queries.specs.Lines.{printed_in, value_at}
 use Rattle.cb_queries.proofs.Texts.{told_items}
 use Rattle.cb_queries.proofs.lines.push_items.Given as goal

@@ -1,4 +1,0 @@
-pub mod Levels
-pub mod Nodes
-pub mod Steps
-pub mod Whole

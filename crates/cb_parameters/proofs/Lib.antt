@@ -1,4 +1,0 @@
-pub mod Picking
-pub mod Stages
-pub mod Shown
-pub mod Denoting

@@ -1,3 +1,0 @@
-pub mod Parametric
-pub mod Stages
-pub mod Laws
