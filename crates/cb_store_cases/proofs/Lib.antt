@@ -1,2 +1,1 @@
 pub mod Moments
-mod Tried
