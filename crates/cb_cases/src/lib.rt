@@ -1,6 +1,6 @@
-//! Whole runs of the top call over objects in memory. The lines and statuses were worked out by hand from the rules of
-//! the language.
+//! The outside tried from outside: objects in memory, and the adapters over files, input and output of the system. The
+//! values were worked out by hand.
 #![tactic(auto)]
 
 #[cfg(test)]
-mod tests;
+mod outside;

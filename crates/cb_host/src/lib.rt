@@ -140,6 +140,3 @@ pub fn read_within<I: Source>(source: &mut I, into: &mut Vec<u8>, limit: u64) ->
     }
     Load::Long
 }
-
-#[cfg(test)]
-mod tests;

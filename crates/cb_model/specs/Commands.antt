@@ -1,5 +1,5 @@
 -- The words of the command line.
-use Rattle.std.specs.Prelude.{ℕ, Bool, false, not, ◌&&◌, nat_le, ◌==◌, if◌then◌else◌, List, [], ◌∷◌, Option, Some, None, option_map, codes, bytes_eq}
+use Rattle.std.specs.Prelude.{ℕ, ◌-◌, ◌^◌, Bool, false, not, ◌&&◌, nat_le, ◌==◌, if◌then◌else◌, List, [], ◌∷◌, Option, Some, None, option_map, codes, bytes_eq}
 use Rattle.cb_model.specs.Text.{Text}
 use Rattle.cb_model.specs.Tokens.{is_number, digits_value}
 
@@ -12,6 +12,11 @@ pub data Nodes : Type 0 where
 abbrev pub IsNumber : Nodes → Type 0
 IsNumber Max = ⊥
 IsNumber (Only n) = Unit {0}
+
+-- the most nodes of a store with this budget; `max` is the greatest number
+abbrev pub budget_of : Nodes → ℕ
+budget_of Max = 2 ^ 64 - 1
+budget_of (Only n) = n
 
 -- the five commands
 pub data Command : Type 0 where

@@ -28,3 +28,4 @@ pub mod Refusals
 pub mod Verdicts
 pub mod Output
 pub mod Top
+pub mod Faults

@@ -307,9 +307,9 @@ pub data OutputBegins (words : List Text) (file input text : Text) : Type 0 wher
 
 -- ---- what was taken of the input
 
--- no byte of the input is left, or one more than its limit was taken
+-- what is behind its limit and one byte more is left of the input; of one that isn't too long that is nothing
 abbrev pub ReadWhole : Text → Option Text → Type 0
-ReadWhole input after = (after ≡ Some []) ⊎ (after ≡ Some (drop 1048577 input))
+ReadWhole input after = after ≡ Some (drop 1048577 input)
 
 -- what is left of the input after a run that no fault and no want of memory ended: only `run` over an accepted file reads it
 abbrev pub TakesBy : Option Command → Text → Text → Option Text → Type 0

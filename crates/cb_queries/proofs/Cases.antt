@@ -6,7 +6,7 @@ use Rattle.cb_model.specs.declared.Sort.{Sort}
 use Rattle.cb_model.specs.declared.Sort.TheVariants as sort
 use Rattle.cb_model.specs.Bits.{Bits, Each}
 use Rattle.cb_model.specs.Text.{Text, lines_text}
-use Rattle.cb_model.specs.Commands.{Nodes, Max, Only, IsNumber}
+use Rattle.cb_model.specs.Commands.{Nodes, Max, Only, IsNumber, budget_of}
 use Rattle.cb_model.specs.Program.{Program, bools, is_bool}
 use Rattle.cb_model.specs.Derivation.{Query, Branch, End, Whole, Stopped, Variables}
 use Rattle.cb_model.specs.Line.{Names, IsLine}
@@ -21,7 +21,7 @@ use Rattle.cb_equations.proofs.Runs.{answered_once, not_answered, too_many_varia
 use Rattle.cb_equations.proofs.Lines.{line_of_bits}
 use Rattle.cb_boolean.specs.Systems.{IsSolvedBy, IsUnsolvable}
 use Rattle.cb_queries.specs.Answered.{slots_of, spread_all}
-use Rattle.cb_queries.specs.Told.{IsBoolean, IsOf, said, few, Tells, budget_of}
+use Rattle.cb_queries.specs.Told.{IsBoolean, IsOf, said, few, Tells}
 use Rattle.cb_queries.specs.Lines.{printed_in, line_names, form_line, IsAnswerText}
 use Rattle.cb_show.specs.Levels.{spread}
 use Rattle.cb_project.specs.Answer.{IsAnswer}

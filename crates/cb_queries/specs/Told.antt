@@ -1,7 +1,7 @@
 -- What a query of Boolean equations prints.
-use Rattle.std.specs.Prelude.{◌≡◌, ℕ, ◌+◌, ◌-◌, ◌^◌, ◌≤◌, Bool, true, List, [], ◌∷◌, length, codes}
+use Rattle.std.specs.Prelude.{◌≡◌, ℕ, ◌+◌, ◌≤◌, Bool, true, List, [], ◌∷◌, length, codes}
 use Rattle.cb_model.specs.Text.{Text, lines_text}
-use Rattle.cb_model.specs.Commands.{Nodes, Max, Only, IsNumber}
+use Rattle.cb_model.specs.Commands.{Nodes, IsNumber}
 use Rattle.cb_model.specs.Program.{Program, bools}
 use Rattle.cb_model.specs.Derivation.{Query}
 use Rattle.cb_model.specs.Line.{Names}
@@ -10,11 +10,6 @@ use Rattle.cb_laws.specs.Laws.{Equal, pairs_in_scope}
 use Rattle.cb_equations.specs.Scope.{AreEquations}
 use Rattle.cb_sorts.specs.Source.{Source}
 use Rattle.cb_sorts.specs.Asked.{Asked}
-
--- the budget of a store
-abbrev pub budget_of : Nodes → ℕ
-budget_of Max = 2 ^ 64 - 1
-budget_of (Only n) = n
 
 -- the query is of Boolean equations alone, over constants and variables that there are, each with its sort, and not of too many
 pub record IsBoolean (s : Source) (a : Asked) : Type 0 where

@@ -2,11 +2,11 @@
 #![tactic(auto)]
 
 ghost use Rattle.std.specs.Prelude.{◌≡◌, ◌≢◌, ℕ, ◌+◌, ◌-◌, ◌≤◌, ◌^◌, true, length, Err, IfOk};
-ghost use Rattle.cb_model.specs.Commands.{Nodes};
+ghost use Rattle.cb_model.specs.Commands.{Nodes, budget_of};
 ghost use Rattle.cb_model.specs.Program.{Program as Defined};
 ghost use Rattle.cb_model.specs.Derivation.{Query as Goals};
 ghost use Rattle.cb_model.specs.Line.{Names};
-ghost use Rattle.cb_queries.specs.Told.{IsBoolean, IsOf, Tells, budget_of};
+ghost use Rattle.cb_queries.specs.Told.{IsBoolean, IsOf, Tells};
 ghost use Rattle.cb_queries.specs.Lines.{IsWhole};
 
 mod answers;

@@ -55,8 +55,7 @@ other_number : outcome.Refused 5 ≡ outcome.Refused 19 → ⊥
 other_number e = let n : true ≡ false = ap (λ o. number_of o == 5) e in cc
 
 left_over : ReadWhole (codes "p.") (Some (codes "p.")) → ⊥
-left_over (inl e) = cc
-left_over (inr e) = cc
+left_over e = cc
 
 pub rows_hold : OutsideExamples
 unfolding digits

@@ -1,9 +1,2 @@
-pub mod Numbers
-pub mod Inputs
-pub mod Counts
-pub mod Outputs
-pub mod Deciding
-pub mod Telling
-pub mod Once
-pub mod Running
-pub mod Steps
+pub mod Outcomes
+pub mod Ending

@@ -1,9 +1,3 @@
-pub mod Words
-pub mod Lines
-pub mod Refusals
-pub mod Counts
-pub mod Run
 pub mod Built
 pub mod Top
-pub mod Answers
-pub mod Running
+pub mod Tasks

@@ -1,11 +1,11 @@
 use Rattle.std.proofs.Common.{◌≡◌, ℕ, ◌+◌, ◌<◌, ◌≤◌, Bool, true, [], ◌∷◌, length, sym, ◌∙◌, ap, subst, arith, codes}
 use Rattle.std.specs.Prelude.{Err}
 use Rattle.cb_model.specs.Text.{lines_text}
-use Rattle.cb_model.specs.Commands.{Nodes}
+use Rattle.cb_model.specs.Commands.{Nodes, budget_of}
 use Rattle.cb_model.specs.Program.{Program as Defined}
 use Rattle.cb_model.specs.Derivation.{Query as Goals}
 use Rattle.cb_model.specs.Line.{Names}
-use Rattle.cb_queries.specs.Told.{IsOf, Tells, budget_of}
+use Rattle.cb_queries.specs.Told.{IsOf, Tells}
 use Rattle.cb_queries.proofs.Cases.{tells_variables, tells_nodes}
 use Rattle.cb_queries.proofs.Shown.{if_ok_both}
 use Rattle.cb_queries.proofs.tell.Goals as goal

@@ -1,19 +1,19 @@
-use Rattle.std.proofs.Common.{Some, refl, sym, ap}
-use Rattle.cb_top.specs.Words.{command_view}
-use Rattle.cb_top.proofs.Outputs.{unbuilt-answers, verify-answers, check-answers, if-ok}
+use Rattle.std.proofs.Common.{◌≡◌, Some, ap, rules}
+use Rattle.std.specs.Option.{option_map}
+use Rattle.cb_lines.specs.Words.{command_view}
+use Rattle.cb_lines.specs.declared.words.Command.TheVariants.{Same, Make}
+use Rattle.cb_top.proofs.Ending.{usage-ran, unbuilt-ran}
 use Rattle.cb_top.proofs.over_command.Goals as goal
 
-pub returns-in-Check-clause-answers : goal.returns-in-Check-clause-answers
-returns-in-Check-clause-answers g c = if-ok c.over_file.result (λ a h. check-answers _ _ _ _ _ (sym (ap (λ x. Some (command_view x)) c.in-Check.is)) h) c.over_file.ensures.answers
+pub returns-in-None-clause-ran : goal.returns-in-None-clause-ran
+returns-in-None-clause-ran g c = usage-ran _ _ _ _ _ _ (ap (option_map command_view) c.in-None.is) c.finish.ensures.written
 
-pub returns-in-Verify-clause-answers : goal.returns-in-Verify-clause-answers
-returns-in-Verify-clause-answers g c =
-    if-ok c.over_file-in-Verify.result (λ a h. verify-answers _ _ _ _ _ _ _ (sym (ap (λ x. Some (command_view x)) c.in-Verify.is)) h) c.over_file-in-Verify.ensures.answers
+pub returns-in-Some-Same-clause-ran : goal.returns-in-Some-Same-clause-ran
+returns-in-Some-Same-clause-ran g c =
+    let k : c.args.command ≡ Some (Same c.in-Some-Same.field-0-0 c.in-Some-Same.field-0-1 c.in-Some-Same.field-0-2 c.in-Some-Same.field-0-3) = search rules in
+    unbuilt-ran _ _ _ _ _ _ _ (ap (option_map command_view) k) (λ h. h) (λ file input lines o h. h) c.finish-in-Some-Same.ensures.written
 
-pub returns-in-Same-clause-answers : goal.returns-in-Same-clause-answers
-returns-in-Same-clause-answers g c =
-    unbuilt-answers _ _ _ _ _ (sym (ap (λ x. Some (command_view x)) c.in-Same.is)) (λ h. h) (λ file input. (refl, c.unbuilt.ensures.outcome)) c.unbuilt.ensures.line
-
-pub returns-in-Make-clause-answers : goal.returns-in-Make-clause-answers
-returns-in-Make-clause-answers g c =
-    unbuilt-answers _ _ _ _ _ (sym (ap (λ x. Some (command_view x)) c.in-Make.is)) (λ h. h) (λ file input. (refl, c.unbuilt-in-Make.ensures.outcome)) c.unbuilt-in-Make.ensures.line
+pub returns-in-Some-Make-clause-ran : goal.returns-in-Some-Make-clause-ran
+returns-in-Some-Make-clause-ran g c =
+    let k : c.args.command ≡ Some (Make c.in-Some-Make.field-0-0 c.in-Some-Make.field-0-1) = search rules in
+    unbuilt-ran _ _ _ _ _ _ _ (ap (option_map command_view) k) (λ h. h) (λ file input lines o h. h) c.finish-in-Some-Make.ensures.written

@@ -1,0 +1,3 @@
+pub mod Counts
+pub mod Deciding
+pub mod Outcomes

@@ -1,0 +1,121 @@
+//! The texts of printed lines. Each is made whole, with all its memory, before a byte of it is written.
+
+ghost use Rattle.std.specs.Prelude.{◌≡◌, ◌≤◌, ◌-◌, [], ◌∷◌, ◌++◌, map, length, codes, decimal, IfOk, OnOk};
+ghost use Rattle.cb_model.specs.Text.{name_text, shown_name, lines_text};
+ghost use Rattle.cb_model.specs.Verdicts.{bit_text, port_texts, at_text, differs_text};
+ghost use Rattle.cb_lines.specs.Lines.{spaced, output_text};
+
+use cb_show::push_name;
+use itoa::Buffer;
+use std::alloc::{AllocError, Global};
+
+/// The words are of no form.
+pub const USAGE: &[u8] = b"error: usage\n";
+
+/// The file is longer than its limit.
+pub const FILE_TOO_LONG: &[u8] = b"error: file too long\n";
+
+/// The input is longer than its limit.
+pub const INPUT_TOO_LONG: &[u8] = b"error: input too long\n";
+
+/// What was asked for isn't built yet.
+pub const UNBUILT: &[u8] = b"error: not built yet\n";
+
+/// The budget of nodes was reached.
+pub const STOPPED_NODES: &[u8] = b"stopped: nodes\n";
+
+/// The line of a module that agrees with its specification.
+pub fn verified_line(alloc: Global, name: &[u8]) -> Result<Vec<u8>, AllocError>
+    ensures { IfOk result (λ v. v.items ≡ lines_text ((codes "verified " ++ name_text name.now) ∷ [])) }
+{
+    let mut line = Vec::from_slice(alloc, b"verified ")?;
+    push_name(&mut line, name)?;
+    line.push(b'\n')?;
+    Ok(line)
+}
+
+/// The line of a file that is accepted: how many clauses it has that are no facts of circuits, and how many modules.
+pub fn checked_line(alloc: Global, clauses: usize, modules: usize) -> Result<Vec<u8>, AllocError>
+    ensures { IfOk result (λ v. v.items ≡ lines_text ((codes "checked: " ++ decimal clauses ++ codes " clauses, " ++ decimal modules ++ codes " modules") ∷ [])) }
+{
+    let mut number = Buffer::new();
+    let mut line = Vec::from_slice(alloc, b"checked: ")?;
+    line.extend_from_slice(number.format(clauses).as_bytes())?;
+    line.extend_from_slice(b" clauses, ")?;
+    line.extend_from_slice(number.format(modules).as_bytes())?;
+    line.extend_from_slice(b" modules\n")?;
+    Ok(line)
+}
+
+/// The line of a module that differs from its specification: the input and the output, counted from 1, at which it
+/// does, what the output is there and what was wanted.
+pub fn differs_line(
+    alloc: Global,
+    name: &[u8],
+    ports: &[&[u8]],
+    input: &[bool],
+    output: u32,
+    got: bool,
+    wanted: bool,
+) -> Result<Vec<u8>, AllocError>
+    requires ports { length ports.now ≡ length input.now }
+    requires output { 1 ≤ output }
+    ensures { IfOk result (λ v. v.items ≡ lines_text (differs_text (name_text name.now) (map (λ p. p.now) ports.now) input.now (output - 1) got wanted ∷ [])) }
+{
+    let mut line = Vec::from_slice(alloc, b"differs ")?;
+    push_name(&mut line, name)?;
+    push_inputs(&mut line, ports, input)?;
+    push_output(&mut line, output, got, wanted)?;
+    Ok(line)
+}
+
+// The output and its two values, up to the end of the line.
+fn push_output(line: &mut Vec<u8>, output: u32, got: bool, wanted: bool) -> Result<(), AllocError>
+    ensures { OnOk result (line.new.items ≡ line.old.items ++ output_text output got wanted) }
+{
+    let mut number = Buffer::new();
+    line.extend_from_slice(b": output ")?;
+    line.extend_from_slice(number.format(output).as_bytes())?;
+    line.extend_from_slice(b" is ")?;
+    line.push(bit_byte(got))?;
+    line.extend_from_slice(b", wanted ")?;
+    line.push(bit_byte(wanted))?;
+    line.push(b'\n')?;
+    Ok(())
+}
+
+// The inputs by their ports, where there are any.
+fn push_inputs(line: &mut Vec<u8>, ports: &[&[u8]], input: &[bool]) -> Result<(), AllocError>
+    requires { length ports.now ≡ length input.now }
+    ensures { OnOk result (line.new.items ≡ line.old.items ++ at_text (port_texts (map (λ p. p.now) ports.now) input.now)) }
+{
+    if ports.is_empty() {
+        return Ok(());
+    }
+    line.extend_from_slice(b" at")?;
+    for i in 0..input.len() {
+        push_port(line, ports[i], input[i])?;
+    }
+    Ok(())
+}
+
+// One port with its bit, behind a space.
+fn push_port(line: &mut Vec<u8>, port: &[u8], bit: bool) -> Result<(), AllocError>
+    ensures { OnOk result (line.new.items ≡ line.old.items ++ (32 ∷ (shown_name port.now ++ codes "=" ++ bit_text bit))) }
+{
+    line.push(b' ')?;
+    if port.len() >= 2 && port[0] == b'_' && port[1] == 0 {
+        line.push(b'_')?;
+    } else {
+        line.extend_from_slice(port)?;
+    }
+    line.push(b'=')?;
+    line.push(bit_byte(bit))?;
+    Ok(())
+}
+
+fn bit_byte(bit: bool) -> u8
+    ensures { bit_text bit ≡ result ∷ [] }
+{
+    if bit { b'1' } else { b'0' }
+}

@@ -1,0 +1,46 @@
+-- What an outcome of `run` says.
+use Rattle.std.proofs.Common.{◌≡◌, ℕ, Bool, true, false, List, Option, sym, ap, subst, ◌∙◌, arith}
+use Rattle.cb_model.specs.declared.Outcome.{Outcome}
+use Rattle.cb_model.specs.declared.Outcome.TheVariants as outcome
+use Rattle.cb_model.specs.declared.Side.{Side}
+use Rattle.cb_model.specs.declared.Side.TheVariants as side
+use Rattle.cb_model.specs.Text.{Text}
+use Rattle.cb_model.specs.Commands.{Nodes}
+use Rattle.cb_model.specs.Refusals.{Refused, unbuilt}
+use Rattle.cb_model.specs.Output as model
+use Rattle.cb_model.specs.Output.{Loaded, InputRefused, run_outcome}
+use Rattle.cb_lines.specs.Ends.{IsDecided, whole, broken, wanting}
+use Rattle.cb_lines.proofs.Outcomes.{Facts, NotUsage, refusal-facts, reading-number, sort-number, no-fault}
+use Rattle.cb_run.specs.Run.{InputSays, refused, not_boolean, ran}
+use Rattle.cb_run.specs.Running.{InputWrites}
+
+-- the number of a refusal of the input
+input-number : (l : Loaded) (input : Text) (r : Refused) → InputRefused l input r → r.number ≡ 19 → ⊥
+input-number l input r (model.long h) = λ (p : 20 ≡ 19). omega arith
+input-number l input r (model.unread {r = q} x s h e) = reading-number x q e
+input-number l input r (model.sorts qs e s h q t) = λ p. sort-number e (sym (ap (λ (x : Refused). x.number) t) ∙ p)
+
+-- `run` may stop
+pub input-facts : (l : Loaded) (resolutions : ℕ) (nodes : Nodes) (input : Text) (lines : List Text) (o : Outcome) → InputSays l resolutions nodes input lines o → Facts (Unit {0}) o
+input-facts l resolutions nodes input lines o (refused r a h) = refusal-facts r lines o (input-number l input r a) h
+input-facts l resolutions nodes input lines o (not_boolean qs a k h) = refusal-facts unbuilt lines o (λ (p : 99 ≡ 19). omega arith) h
+input-facts l resolutions nodes input lines o (ran qs stop a b h e) = record {
+  ends = subst IsDecided (sym e) (decided stop);
+  other = λ p. other stop (sym e ∙ p);
+  stops = λ p. tt;
+}
+  where
+    decided : (b : Bool) → IsDecided (run_outcome b)
+    decided true = tt
+    decided false = tt
+
+    other : (b : Bool) → run_outcome b ≡ outcome.Refused 19 → ⊥
+    other true p = absurd (cc)
+    other false p = absurd (cc)
+
+-- what is written over an input that was read ends by no other fault than one of the output
+pub input-side : {l : Loaded} {resolutions : ℕ} {nodes : Nodes} {input : Text} {before after : Option Text} {result : Outcome} → InputWrites l resolutions nodes input before after result →
+    (s : Side) → (s ≡ side.Output → ⊥) → result ≡ outcome.Fault s → ⊥
+input-side {l} {resolutions} {nodes} {input} {result = result} (whole t h w) s n e = no-fault s result (input-facts l resolutions nodes input h.lines result h.says).ends e
+input-side (broken t b f w) s n e = n (let p : outcome.Fault s ≡ outcome.Fault side.Output = sym e ∙ f in cc)
+input-side (wanting t b f w) s n e = let p : outcome.Memory ≡ outcome.Fault s = sym f ∙ e in cc

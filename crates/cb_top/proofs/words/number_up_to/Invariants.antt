@@ -1,6 +1,0 @@
-use Rattle.std.proofs.Common.{◌≡◌, drop}
-use Rattle.cb_top.specs.Words.{digits_upto}
-use Rattle.cb_top.proofs.words.number_up_to.Given as goal
-
-abbrev pub invariant-loop-byte : goal.invariant-loop-byte
-invariant-loop-byte l = digits_upto l.limit l.value (drop l.byte-index l.bytes) ≡ digits_upto l.limit 0 l.word
