@@ -112,6 +112,7 @@ function-all ts us qs all i m h = record { at = λ p. sym (or-none (function_of 
     or-none : (b : Bool) → (b || false) ≡ b
     or-none true = refl
     or-none false = refl
+
     drop-past : {A : Type 0} (xs : List A) (i : ℕ) → length xs ≤ i → drop i xs ≡ []
     drop-past [] zero m = refl
     drop-past [] (suc i) m = refl

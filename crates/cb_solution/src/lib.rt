@@ -11,10 +11,9 @@ ghost use Rattle.cb_solution.specs.Solution.{AreRests, IsFalling, IsImage, IsSol
 
 mod pairs;
 
-pub use pairs::differ;
-
 use cb_dd::{Node, Stop};
 use cb_ops::Ops;
+pub use pairs::differ;
 use std::alloc::Global;
 
 /// The node that is 1 where the node is with both bits at the level.

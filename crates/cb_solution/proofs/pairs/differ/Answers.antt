@@ -22,7 +22,7 @@ differ_more-requires-clause-g c = (pair-grown c.args.ops.now c.loop-f.ops c.args
 pub returns-in_err-next-clause-room : goal.returns-in_err-next-clause-room
 returns-in_err-next-clause-room c = room-all c.args.ops.now c.differ_more.new.ops c.args.pairs.now (c.loop-f.f-index + 1) (let m = c.loop-f-test.true in omega arith)
     (λ ls d. room-on c.args.ops.now c.loop-f.ops c.differ_more.new.ops c.args.pairs.now c.loop-f.f-index c.loop-f.all.0 0 _ c.requires c.loop-f-test.true c.loop-f.invariant.grows c.differ_more.ensures.grows c.loop-f.invariant.node
-      c.differ_more.ensures.room ls d (c.loop-f.invariant.depends ls d) (c.loop-f.invariant.room ls d))
+    c.differ_more.ensures.room ls d (c.loop-f.invariant.depends ls d) (c.loop-f.invariant.room ls d))
 
 pub loop-f-preserved : goal.loop-f-preserved
 loop-f-preserved c = record {
