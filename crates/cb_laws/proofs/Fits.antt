@@ -12,7 +12,7 @@ use Rattle.cb_model.specs.Grammar.{Form, Forms, Variable, Integer, Name, Closed,
 use Rattle.cb_model.specs.Written.{is_name, is_written, has_goal, goal_written, clause_written}
 use Rattle.cb_model.specs.Directives.{Sign, Declared, same_sign, has_sign, count_of, sorts_of, heads, Refusal, Twice, Unknown, SortClash}
 use Rattle.cb_model.specs.Sorts.{Numbering, apart, apart_all, Body, argument_places, call_places, goals_places, all_places, Clash, sign_number, as_tree, circuit_sign}
-use Rattle.cb_model.specs.Loading.{is_fact, module_names, is_taken, goal_unknown, body_of, query_body, BodyRefusal, RulesRefusal, skip, directive, passes, refused, numbering, IsClause, AreClauses, no_clauses, skips, skips_directive, a_clause, signs_of, goals_signs, clauses_signs}
+use Rattle.cb_model.specs.Loading.{is_fact, module_names, is_taken, goal_unknown, body_of, query_body, BodyRefusal, RulesRefusal, skip, directive, passes, refused, numbering, IsClause, HaveClauses, no_clauses, skips, skips_directive, a_clause, signs_of, goals_signs, clauses_signs}
 use Rattle.cb_model.specs.Sorted.{tree_fits, goal_fits, clause_fits}
 use Rattle.cb_laws.specs.Laws.{AreCounted, ClausesFit, TreesFit}
 use Rattle.cb_laws.proofs.SortedTrees.{AreSorted, sorted_front, sorted_behind, same_signs, and_both, all_front, all_behind}
@@ -134,7 +134,7 @@ module _ (d : Declared) (hs names : List Sign) (ms : List (Option Text)) (counte
   head_written : (k : ℕ) (f : Form) (bodied : Bool) (gs : List FormGoal) → clause_written (Rule k f bodied gs) ≡ true → is_name f ≡ true
   head_written k f bodied gs h = (and_parts (is_name f) (is_written f && ((if bodied then has_goal gs else not (has_goal gs)) && list_all goal_written gs)) h).0
 
-  pub file_fits : (cs : List FormClause) (xs : List Clause) (r : Option (Refusal × ℕ)) → r ≡ None → RulesRefusal d hs ms cs r → AreClauses d names ms cs xs → Wanted cs → list_all clause_written cs ≡ true →
+  pub file_fits : (cs : List FormClause) (xs : List Clause) (r : Option (Refusal × ℕ)) → r ≡ None → RulesRefusal d hs ms cs r → HaveClauses d names ms cs xs → Wanted cs → list_all clause_written cs ≡ true →
       list_all (clause_fits table) xs ≡ true
   file_fits [] [] r none_is ok no_clauses h w = refl
   file_fits [] (c ∷ xs) r none_is ok more h w = elim more [ ]

@@ -22,7 +22,7 @@ use Rattle.cb_model.specs.Grammar.{Form, Forms, Variable, Integer, Name, Closed,
 use Rattle.cb_model.specs.Written.{has_one, has_two, is_written, are_written, is_name, has_goal, goal_written, clause_written}
 use Rattle.cb_model.specs.Directives.{Sign, Declared, same_sign, count_of, sorts_of}
 use Rattle.cb_model.specs.Sorts.{own_name, apart, apart_all, apart_goals, Body, Numbering, sign_number, bit_expr, as_expr, as_exprs, as_bus, as_tree, as_trees, as_arguments, circuit_sign}
-use Rattle.cb_model.specs.Loading.{body_of, query_body, circuit_goal, call_goal, a_call, an_equal, AreGoals, no_goals, more_goals, numbering, IsClause, AreClauses, no_clauses, skips, skips_directive, a_clause}
+use Rattle.cb_model.specs.Loading.{body_of, query_body, circuit_goal, call_goal, a_call, an_equal, AreGoals, no_goals, more_goals, numbering, IsClause, HaveClauses, no_clauses, skips, skips_directive, a_clause}
 use Rattle.cb_model.specs.Sorted.{has_operand, chains_fit, chains_fit_step, operands_fit, operands_fit_step}
 use Rattle.cb_laws.specs.Laws.{goal_trees, clause_trees, ChainsHaveOperands}
 use Rattle.cb_laws.proofs.SortedTrees.{and_both, all_both, all_map}
@@ -290,7 +290,7 @@ clause_chained d names ms k f bodied gs c w is =
     (ap (list_all operands_fit) is.head ∙ arguments_chained n d (apart f 0).0 (chained_apart f 0 ∙ written_chained f q.0))
     (goals_chained n d ms (body_of f gs) (apart f 0).1 0 gs c.body r.1 is.body)
 
-file_chained : (d : Declared) (names : List Sign) (ms : List (Option Text)) (cs : List FormClause) (xs : List Clause) → list_all clause_written cs ≡ true → AreClauses d names ms cs xs → list_all all_operands xs ≡ true
+file_chained : (d : Declared) (names : List Sign) (ms : List (Option Text)) (cs : List FormClause) (xs : List Clause) → list_all clause_written cs ≡ true → HaveClauses d names ms cs xs → list_all all_operands xs ≡ true
 file_chained d names ms [] [] w no_clauses = refl
 file_chained d names ms [] (c ∷ xs) w more = elim more [ ]
 file_chained d names ms (Directive k y fs ∷ cs) xs w (skips e more) = file_chained d names ms cs xs (and_parts (clause_written (Directive k y fs)) (list_all clause_written cs) w).1 more

@@ -14,7 +14,7 @@ use Rattle.cb_model.specs.Values.{tree_in_scope}
 use Rattle.cb_model.specs.Grammar.{Form, Forms, Variable, Integer, Name, Closed, Open, Not, And, Xor, Or, Last, More, FormGoal, ACall, AnEqual, FormClause, Directive, Rule}
 use Rattle.cb_model.specs.Directives.{Sign, Declared, same_sign, count_of, sorts_of, heads, Refusal}
 use Rattle.cb_model.specs.Sorts.{own_name, apart_all, Place, Body, form_sort, below, argument_places, call_places, goal_places, goals_places, head_places, all_places, IsSide, left, right, Equation, HasSort, Clash, wrong_place, wrong_side, Numbering, sign_number, as_tree, as_trees, as_arguments, circuit_sign}
-use Rattle.cb_model.specs.Loading.{module_names, body_of, query_body, RulesRefusal, skip, directive, passes, refused, body_variables, HaveSorts, circuit_goal, call_goal, IsGoal, a_call, an_equal, AreGoals, no_goals, more_goals, numbering, IsClause, AreClauses, no_clauses, skips, skips_directive, a_clause}
+use Rattle.cb_model.specs.Loading.{module_names, body_of, query_body, RulesRefusal, skip, directive, passes, refused, body_variables, HaveSorts, circuit_goal, call_goal, IsGoal, a_call, an_equal, AreGoals, no_goals, more_goals, numbering, IsClause, HaveClauses, no_clauses, skips, skips_directive, a_clause}
 use Rattle.cb_laws.specs.Laws.{goal_trees, clause_trees, TreesInScope}
 use Rattle.cb_laws.proofs.Listed.{one_one}
 use Rattle.cb_laws.proofs.SortedTrees.{and_both, all_both}
@@ -156,7 +156,7 @@ module _ (d : Declared) (hs names : List Sign) (ms : List (Option Text)) where
   abbrev all_within : Clause → Bool
   all_within c = list_all (tree_in_scope (length d.constants) (length c.sorts)) (clause_trees c)
 
-  file_scoped : (cs : List FormClause) (xs : List Clause) (r : Option (Refusal × ℕ)) → r ≡ None → RulesRefusal d hs ms cs r → AreClauses d names ms cs xs → list_all all_within xs ≡ true
+  file_scoped : (cs : List FormClause) (xs : List Clause) (r : Option (Refusal × ℕ)) → r ≡ None → RulesRefusal d hs ms cs r → HaveClauses d names ms cs xs → list_all all_within xs ≡ true
   file_scoped [] [] r none_is ok no_clauses = refl
   file_scoped [] (c ∷ xs) r none_is ok more = elim more [ ]
   file_scoped (Directive k y fs ∷ cs) xs r none_is (skip e ok) more = absurd (cc)

@@ -195,12 +195,12 @@ pub record IsClause (d : Declared) (names : List Sign) (ms : List (Option Text))
   pub body : AreGoals d (body_of f gs) (numbering d names (body_of f gs)) ms 0 (body_of f gs).goals c.body
 
 -- the rules in order, facts left out
-pub data AreClauses (d : Declared) (names : List Sign) (ms : List (Option Text)) : List FormClause → List Clause → Type 0 where
-  no_clauses : AreClauses d names ms [] []
-  skips : {c : FormClause} {cs : List FormClause} {xs : List Clause} → is_fact c ≡ true → AreClauses d names ms cs xs → AreClauses d names ms (c ∷ cs) xs
-  skips_directive : {n : ℕ} {x : Text} {fs : Forms} {cs : List FormClause} {xs : List Clause} → AreClauses d names ms cs xs → AreClauses d names ms (Directive n x fs ∷ cs) xs
+pub data HaveClauses (d : Declared) (names : List Sign) (ms : List (Option Text)) : List FormClause → List Clause → Type 0 where
+  no_clauses : HaveClauses d names ms [] []
+  skips : {c : FormClause} {cs : List FormClause} {xs : List Clause} → is_fact c ≡ true → HaveClauses d names ms cs xs → HaveClauses d names ms (c ∷ cs) xs
+  skips_directive : {n : ℕ} {x : Text} {fs : Forms} {cs : List FormClause} {xs : List Clause} → HaveClauses d names ms cs xs → HaveClauses d names ms (Directive n x fs ∷ cs) xs
   a_clause : {n : ℕ} {f : Form} {bodied : Bool} {gs : List FormGoal} {c : Clause} {cs : List FormClause} {xs : List Clause} → is_fact (Rule n f bodied gs) ≡ false →
-      IsClause d names ms f gs c → AreClauses d names ms cs xs → AreClauses d names ms (Rule n f bodied gs ∷ cs) (c ∷ xs)
+      IsClause d names ms f gs c → HaveClauses d names ms cs xs → HaveClauses d names ms (Rule n f bodied gs ∷ cs) (c ∷ xs)
 
 -- the delay words of a name
 abbrev pub words_named : Declared → Sign → List When
@@ -244,5 +244,5 @@ pub record IsProgram (d : Declared) (names wanted : List Sign) (ms : List (Optio
   pub arguments : p.world.arguments ≡ map (sorts_of d) names
   pub words : p.words ≡ map (words_named d) names
   pub demons : p.demons ≡ map (has_sign d.demons) names
-  pub clauses : AreClauses d names ms cs p.clauses
+  pub clauses : HaveClauses d names ms cs p.clauses
   pub modules : p.circuits ≡ circuits

@@ -14,7 +14,7 @@ use Rattle.cb_model.specs.Forms.{goal_form, clause_form}
 use Rattle.cb_model.specs.Written.{goal_written, clause_written}
 use Rattle.cb_model.specs.Directives.{Sign, has_sign, Declared, Refusal, SortClash, Unknown, Twice}
 use Rattle.cb_model.specs.Sorts.{Body, apart_goal, apart_goals, Equation, HasSort, Numbering}
-use Rattle.cb_model.specs.Loading.{is_fact, body_of, BodyRefusal, RulesRefusal, none, skip, directive, passes, refused, IsGoal, a_call, an_equal, AreGoals, no_goals, more_goals, AreClauses, no_clauses, skips, skips_directive, a_clause}
+use Rattle.cb_model.specs.Loading.{is_fact, body_of, BodyRefusal, RulesRefusal, none, skip, directive, passes, refused, IsGoal, a_call, an_equal, AreGoals, no_goals, more_goals, HaveClauses, no_clauses, skips, skips_directive, a_clause}
 use Rattle.cb_directives.specs.declared.fault.LoadError.{LoadError}
 use Rattle.cb_directives.specs.declared.fault.LoadError.TheVariants as error
 use Rattle.cb_directives.proofs.Reading.{drop_past}
@@ -100,7 +100,7 @@ module _ (d : Declared) (b : Body) (n : Numbering) (ms : List (Option Text)) whe
 -- what holds of the clauses that are left holds of all
 pub record RulesSoFar (d : Declared) (hs names : List Sign) (ms : List (Option Text)) (all left : List FormClause) (now : List Clause) : Type 0 where
   pub passes : (r : Option (Refusal × ℕ)) → RulesRefusal d hs ms left r → RulesRefusal d hs ms all r
-  pub are_clauses : (xs : List Clause) → AreClauses d names ms left xs → AreClauses d names ms all (now ++ xs)
+  pub are_clauses : (xs : List Clause) → HaveClauses d names ms left xs → HaveClauses d names ms all (now ++ xs)
 
 module _ (cs : List RawClause) (i : ℕ) (c : RawClause) (h : i < length cs) (at : c ≡ get_or cs i c) where
   pub opened_clauses : map clause_form (drop i cs) ≡ clause_form c ∷ map clause_form (drop (i + 1) cs)
@@ -116,15 +116,15 @@ module _ (cs : List RawClause) (i : ℕ) (c : RawClause) (h : i < length cs) (at
 
 module _ (d : Declared) (hs names : List Sign) (ms : List (Option Text)) where
   pub rules_init : (all : List FormClause) (now : List Clause) → now ≡ [] → RulesSoFar d hs names ms all all now
-  rules_init all now e = record { passes = λ r h. h; are_clauses = λ xs h. subst (λ (l : List Clause). AreClauses d names ms all (l ++ xs)) (sym e) h }
+  rules_init all now e = record { passes = λ r h. h; are_clauses = λ xs h. subst (λ (l : List Clause). HaveClauses d names ms all (l ++ xs)) (sym e) h }
 
   pub rules_on : (all left more : List FormClause) (c : FormClause) (now then' : List Clause) → left ≡ c ∷ more → RulesSoFar d hs names ms all left now → Adds d hs names ms c now then' →
       RulesSoFar d hs names ms all more then'
   rules_on all left more c now then' e so a = record {
     passes = λ r h. so.passes r (subst (λ (l : List FormClause). RulesRefusal d hs ms l r) (sym e) (a.passes more r h));
     are_clauses = λ xs h.
-        subst (AreClauses d names ms all) (sym (append_assoc now a.clauses xs) ∙ ap (λ (l : List Clause). l ++ xs) (sym a.added))
-        (so.are_clauses (a.clauses ++ xs) (subst (λ (l : List FormClause). AreClauses d names ms l (a.clauses ++ xs)) (sym e) (a.are_clauses more xs h)));
+        subst (HaveClauses d names ms all) (sym (append_assoc now a.clauses xs) ∙ ap (λ (l : List Clause). l ++ xs) (sym a.added))
+        (so.are_clauses (a.clauses ++ xs) (subst (λ (l : List FormClause). HaveClauses d names ms l (a.clauses ++ xs)) (sym e) (a.are_clauses more xs h)));
   }
 
   pub rules_stop : (all left more : List FormClause) (c : FormClause) (now : List Clause) (e : LoadError) → left ≡ c ∷ more → RulesSoFar d hs names ms all left now →
@@ -135,10 +135,10 @@ module _ (d : Declared) (hs names : List Sign) (ms : List (Option Text)) where
   rules_stop all left more c now (error.Twice n) q so h = so.passes (Some (Twice, n)) (subst (λ (l : List FormClause). RulesRefusal d hs ms l (Some (Twice, n))) (sym q) (h more))
   rules_stop all left more c now error.Memory q so h = tt
 
-  pub rules_end : (all left : List FormClause) (now : List Clause) → left ≡ [] → RulesSoFar d hs names ms all left now → RulesRefusal d hs ms all None × AreClauses d names ms all now
+  pub rules_end : (all left : List FormClause) (now : List Clause) → left ≡ [] → RulesSoFar d hs names ms all left now → RulesRefusal d hs ms all None × HaveClauses d names ms all now
   rules_end all left now e so = (
     so.passes None (subst (λ (l : List FormClause). RulesRefusal d hs ms l None) (sym e) none),
-    subst (AreClauses d names ms all) (append-nil now) (so.are_clauses [] (subst (λ (l : List FormClause). AreClauses d names ms l []) (sym e) no_clauses)),
+    subst (HaveClauses d names ms all) (append-nil now) (so.are_clauses [] (subst (λ (l : List FormClause). HaveClauses d names ms l []) (sym e) no_clauses)),
   )
 
   -- ---- one clause

@@ -4,7 +4,7 @@ use Rattle.cb_model.specs.Text.{Text}
 use Rattle.cb_model.specs.declared.Clause.{Clause}
 use Rattle.cb_model.specs.Grammar.{Form, FormGoal, FormClause}
 use Rattle.cb_model.specs.Directives.{Sign, Declared, Refusal}
-use Rattle.cb_model.specs.Loading.{body_of, BodyRefusal, RulesRefusal, IsClause, AreClauses}
+use Rattle.cb_model.specs.Loading.{body_of, BodyRefusal, RulesRefusal, IsClause, HaveClauses}
 
 -- a rule is accepted, and its clause is the last
 pub record AddsRule (d : Declared) (hs names : List Sign) (ms : List (Option Text)) (f : Form) (gs : List FormGoal) (old new : List Clause) : Type 0 where
@@ -17,5 +17,5 @@ pub record AddsRule (d : Declared) (hs names : List Sign) (ms : List (Option Tex
 pub record Adds (d : Declared) (hs names : List Sign) (ms : List (Option Text)) (c : FormClause) (old new : List Clause) : Type 0 where
   pub clauses : List Clause
   pub passes : (cs : List FormClause) (r : Option (Refusal × ℕ)) → RulesRefusal d hs ms cs r → RulesRefusal d hs ms (c ∷ cs) r
-  pub are_clauses : (cs : List FormClause) (xs : List Clause) → AreClauses d names ms cs xs → AreClauses d names ms (c ∷ cs) (clauses ++ xs)
+  pub are_clauses : (cs : List FormClause) (xs : List Clause) → HaveClauses d names ms cs xs → HaveClauses d names ms (c ∷ cs) (clauses ++ xs)
   pub added : new ≡ old ++ clauses

@@ -6,7 +6,7 @@ ghost use Rattle.cb_model.specs.Text.{Text};
 ghost use Rattle.cb_model.specs.Grammar.{FormClause};
 ghost use Rattle.cb_model.specs.Written.{is_name, is_written, goal_written, clause_written};
 ghost use Rattle.cb_model.specs.Forms.{form_of, goal_form, clause_form};
-ghost use Rattle.cb_model.specs.Loading.{body_of, BodyRefusal, IsClause, RulesRefusal, AreClauses};
+ghost use Rattle.cb_model.specs.Loading.{body_of, BodyRefusal, IsClause, RulesRefusal, HaveClauses};
 ghost use Rattle.cb_marking.specs.Marking.{IsMarking};
 ghost use Rattle.cb_known.specs.Modules.{AreNumbers};
 ghost use Rattle.cb_rules.specs.Refused.{RefusesBody, RefusesRules};
@@ -175,7 +175,7 @@ pub fn rules<'s>(
     clauses: &[RawClause<'s>],
 ) -> Result<Items<Clause>, LoadError>
     requires { list_all clause_written (map clause_form clauses.now) ≡ true }
-    ensures { (ms : List (Option Text)) → AreNumbers ms given.now.modules.now → MatchResult result (λ xs. RulesRefusal given.now.declared.now given.now.heads.now ms (map clause_form clauses.now) None × AreClauses given.now.declared.now given.now.names.now ms (map clause_form clauses.now) xs) (RefusesRules given.now.declared.now given.now.heads.now ms (map clause_form clauses.now)) }
+    ensures { (ms : List (Option Text)) → AreNumbers ms given.now.modules.now → MatchResult result (λ xs. RulesRefusal given.now.declared.now given.now.heads.now ms (map clause_form clauses.now) None × HaveClauses given.now.declared.now given.now.names.now ms (map clause_form clauses.now) xs) (RefusesRules given.now.declared.now given.now.heads.now ms (map clause_form clauses.now)) }
 {
     let mut all = Items::new(alloc);
     for clause in clauses {

@@ -15,7 +15,7 @@ use Rattle.cb_model.specs.Grammar.{Form, Forms, Variable, Integer, Name, Closed,
 use Rattle.cb_model.specs.Written.{is_name, clause_written}
 use Rattle.cb_model.specs.Directives.{Sign, same_sign, has_sign, count_of, Declared, sorts_of}
 use Rattle.cb_model.specs.Sorts.{Body, apart, apart_all, apart_goals, Numbering, sign_number, as_expr, as_exprs, as_bus, as_tree, as_trees, as_arguments, circuit_sign}
-use Rattle.cb_model.specs.Loading.{head_sign, first_atom, module_number, circuit_goal, call_goal, IsGoal, a_call, an_equal, AreGoals, no_goals, more_goals, body_of, body_variables, IsClause, AreClauses, no_clauses, skips, skips_directive, a_clause, signs_of, signs_in, goals_signs, clauses_signs}
+use Rattle.cb_model.specs.Loading.{head_sign, first_atom, module_number, circuit_goal, call_goal, IsGoal, a_call, an_equal, AreGoals, no_goals, more_goals, body_of, body_variables, IsClause, HaveClauses, no_clauses, skips, skips_directive, a_clause, signs_of, signs_in, goals_signs, clauses_signs}
 use Rattle.cb_rules.proofs.Refusing.{count_apart, variable_apart}
 use Rattle.cb_sorts.proofs.Known.{place_within, and_left, and_right, all_left, all_right, head_there, rule_signs, fact_signs}
 
@@ -185,7 +185,7 @@ module _ (names more : List Sign) where
       }
 
   pub clauses_same : (d : Declared) (ms : List (Option Text)) (cs : List FormClause) (xs : List Clause) → list_all clause_written cs ≡ true → Numbered (clauses_signs cs) →
-      AreClauses d names ms cs xs → AreClauses d (names ++ more) ms cs xs
+      HaveClauses d names ms cs xs → HaveClauses d (names ++ more) ms cs xs
   clauses_same d ms cs xs w h no_clauses = no_clauses
   clauses_same d ms cs xs w h (skips {c = c} {cs = rest} e p) =
       skips e (clauses_same d ms rest xs (and_right (clause_written c) (list_all clause_written rest) w) (fact_signs (has_sign names) c rest e h) p)

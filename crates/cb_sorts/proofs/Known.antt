@@ -11,7 +11,7 @@ use Rattle.cb_model.specs.Grammar.{Form, Variable, Integer, Name, Closed, Open, 
 use Rattle.cb_model.specs.Written.{is_name, clause_written}
 use Rattle.cb_model.specs.Directives.{Sign, same_sign, has_sign, count_of, Declared}
 use Rattle.cb_model.specs.Sorts.{sign_number}
-use Rattle.cb_model.specs.Loading.{is_fact, head_sign, signs_of, goals_signs, clauses_signs, AreClauses, no_clauses, skips, skips_directive, a_clause}
+use Rattle.cb_model.specs.Loading.{is_fact, head_sign, signs_of, goals_signs, clauses_signs, HaveClauses, no_clauses, skips, skips_directive, a_clause}
 
 abbrev behind : Option ℕ → Option ℕ
 behind None = None
@@ -93,7 +93,7 @@ all_cons n x xs h a (suc j) d k = a j d (omega arith)
 
 -- each clause has a numbered predicate
 pub preds_below : (d : Declared) (names : List Sign) (ms : List (Option Text)) (cs : List FormClause) (xs : List Clause) → list_all clause_written cs ≡ true →
-    list_all (has_sign names) (clauses_signs cs) ≡ true → AreClauses d names ms cs xs → All (λ c. c.pred < length names) xs
+    list_all (has_sign names) (clauses_signs cs) ≡ true → HaveClauses d names ms cs xs → All (λ c. c.pred < length names) xs
 preds_below d names ms cs xs w h no_clauses = λ k x q. absurd (omega arith)
 preds_below d names ms cs xs w h (skips {c = c} {cs = rest} e p) =
     preds_below d names ms rest xs (and_right (clause_written c) (list_all clause_written rest) w) (fact_signs (has_sign names) c rest e h) p
@@ -108,7 +108,7 @@ preds_below d names ms cs xs w h (a_clause {n = n} {f = f} {bodied = b} {gs = gs
     (all_right (has_sign names) (goals_signs gs) (clauses_signs rest) (all_right (has_sign names) (signs_of f) (goals_signs gs ++ clauses_signs rest) s)) p)
 
 -- a file gives no more clauses than it has
-pub few_clauses : (d : Declared) (names : List Sign) (ms : List (Option Text)) (cs : List FormClause) (xs : List Clause) → AreClauses d names ms cs xs → length xs ≤ length cs
+pub few_clauses : (d : Declared) (names : List Sign) (ms : List (Option Text)) (cs : List FormClause) (xs : List Clause) → HaveClauses d names ms cs xs → length xs ≤ length cs
 few_clauses d names ms cs xs no_clauses = omega arith
 few_clauses d names ms cs xs (skips {cs = rest} e p) =
     let low : length xs ≤ length rest = few_clauses d names ms rest xs p in omega arith

@@ -5,7 +5,7 @@ ghost use Rattle.std.specs.List.{list_all};
 ghost use Rattle.cb_model.specs.Forms.{clause_form};
 ghost use Rattle.cb_model.specs.Written.{clause_written};
 ghost use Rattle.cb_model.specs.Directives.{Sign, same_sign, has_sign, heads as heads_of};
-ghost use Rattle.cb_model.specs.Loading.{module_names, clauses_signs, RulesRefusal, AreClauses};
+ghost use Rattle.cb_model.specs.Loading.{module_names, clauses_signs, RulesRefusal, HaveClauses};
 ghost use Rattle.cb_known.specs.Modules.{AreNumbers};
 ghost use Rattle.cb_chains.specs.Chained.{AreChained};
 ghost use Rattle.cb_rules.specs.Refused.{RefusesRules};
@@ -37,7 +37,7 @@ pub(crate) fn chained_rules<'s>(
     requires heads { (a : Sign) → has_sign known.now.heads a ≡ has_sign (heads_of (map clause_form clauses.now)) a }
     requires modules { AreNumbers (module_names (map clause_form clauses.now)) known.now.modules }
     requires wanted { list_all (has_sign known.now.names) (clauses_signs (map clause_form clauses.now)) ≡ true }
-    ensures rules { MatchResult result (λ r. RulesRefusal declared.now (heads_of (map clause_form clauses.now)) (module_names (map clause_form clauses.now)) (map clause_form clauses.now) None × AreClauses declared.now known.now.names (module_names (map clause_form clauses.now)) (map clause_form clauses.now) r.clauses) (RefusesRules declared.now (heads_of (map clause_form clauses.now)) (module_names (map clause_form clauses.now)) (map clause_form clauses.now)) }
+    ensures rules { MatchResult result (λ r. RulesRefusal declared.now (heads_of (map clause_form clauses.now)) (module_names (map clause_form clauses.now)) (map clause_form clauses.now) None × HaveClauses declared.now known.now.names (module_names (map clause_form clauses.now)) (map clause_form clauses.now) r.clauses) (RefusesRules declared.now (heads_of (map clause_form clauses.now)) (module_names (map clause_form clauses.now)) (map clause_form clauses.now)) }
     ensures distinct { IfOk result (λ _. AllPairs (λ a b. same_sign a b ≡ false) known.now.names) }
     ensures few { IfOk result (λ r. length r.clauses ≤ 4194304) }
     ensures chained { IfOk result (λ r. AreChained r.clauses (length known.now.names) r.chains) }
