@@ -124,6 +124,13 @@ impl Store {
         self.drawn
     }
 
+    /// The free levels with their variables, in the order of making.
+    pub fn free(&self) -> &[Free]
+        ensures { result.now ≡ self.now.free }
+    {
+        self.free.as_slice()
+    }
+
     /// The operations, for reading.
     pub fn read(&self) -> &Ops
         ensures { result.now ≡ self.now.nodes }

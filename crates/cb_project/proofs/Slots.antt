@@ -47,7 +47,7 @@ slots-next s leaves i d n values are lt before e =
 pub slots-done : (s : Seen) (leaves : List Slot) (i : ℕ) (values : List Node) → length leaves ≤ i → values ≡ slot_nodes s (take i leaves) → values ≡ slot_nodes s leaves
 slots-done s leaves i values le e = e ∙ ap (slot_nodes s) (take_all i leaves le)
 
-value-same : (ts : List Triple) (ns : List Node) (x : ℕ) (d : Node) → x < length ns → function_of ts (get_or ns x d).0 ≡ value_in ts ns x
+pub value-same : (ts : List Triple) (ns : List Node) (x : ℕ) (d : Node) → x < length ns → function_of ts (get_or ns x d).0 ≡ value_in ts ns x
 value-same ts [] x d lt = absurd (omega arith)
 value-same ts (n ∷ ns) zero d lt = refl
 value-same ts (n ∷ ns) (suc x) d lt = value-same ts ns x d (omega arith)
@@ -56,7 +56,7 @@ pub functions-slots : (s : Seen) (leaves : List Slot) → AreSlots s leaves → 
 functions-slots s [] are = refl
 functions-slots s (l ∷ leaves) are = ap₂ ◌∷◌ (value-same s.nodes.triples s.slots l.0 (record { 0 = 0 }) are.0) (functions-slots s leaves are.1)
 
-there-at : (ts : List Triple) (ns : List Node) (x : ℕ) (d : Node) → AreThere ts ns → x < length ns → IsNode ts (get_or ns x d).0
+pub there-at : (ts : List Triple) (ns : List Node) (x : ℕ) (d : Node) → AreThere ts ns → x < length ns → IsNode ts (get_or ns x d).0
 there-at ts [] x d w lt = absurd (omega arith)
 there-at ts (n ∷ ns) zero d w lt = w.0
 there-at ts (n ∷ ns) (suc x) d w lt = there-at ts ns x d w.1 (omega arith)

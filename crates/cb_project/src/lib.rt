@@ -17,6 +17,7 @@ use sqlite_items::Items;
 use std::alloc::Global;
 
 mod leaves;
+mod renaming;
 
 /// The parametric form of an answer.
 #[derive(Debug, Drop)]

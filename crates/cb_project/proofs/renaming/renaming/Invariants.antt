@@ -1,0 +1,7 @@
+use Rattle.std.proofs.Common.{◌≡◌, ℕ, nat_eq, Some}
+use Rattle.indexmap.specs.IndexMap.{get}
+use Rattle.cb_project.specs.Renaming.{AreNamed}
+use Rattle.cb_project.proofs.renaming.renaming.Given as goal
+
+abbrev pub invariant-loop-i : goal.invariant-loop-i
+invariant-loop-i l = AreNamed l.store l.first l.leaves l.i l.next l.names.entries
