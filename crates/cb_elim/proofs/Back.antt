@@ -239,6 +239,7 @@ pub store-drawn : (s : Seen) (n : ℕ) → IsStore s → IsStore (record s { dra
 unfolding view_of
 store-drawn s n st = record {
   good = st.good;
+  form = st.form;
   slots = st.slots;
   levels = λ l x h. let w : l < s.drawn = st.levels l x h in omega arith;
   constants = let w : s.constants ≤ s.drawn = st.constants in omega arith;

@@ -11,6 +11,9 @@ use Rattle.cb_dd.specs.Diagram.{Store, function_of}
 use Rattle.cb_ops.specs.Ops.{Grows}
 use Rattle.cb_ops.specs.Support.{IsListed}
 use Rattle.cb_boole.specs.Elimination.{Function, DependsOnly, rest, solved}
+use Rattle.cb_solution.specs.Solution.{IsFalling}
+use Rattle.cb_boole.specs.Form.{IsForm}
+use Rattle.cb_boole.proofs.Form.{Falls, form_after}
 use Rattle.cb_boole.specs.View.{View, IsLive, IsGood, IsFit, InRange, point, unified}
 use Rattle.cb_boole.proofs.Point.{put_other}
 use Rattle.cb_boole.proofs.Only.{IsHeld, weaker}
@@ -58,6 +61,15 @@ module _ (S : View) (t : Function) (fit : IsFit S t) where
     free-all ls (λ k w. h k (listed-there l k ls w)) (λ k w. needed k (listed-there l k ls w)),
   )
 
+-- each level of a falling list is above those that follow
+each-below : (m : ℕ) (ls : List ℕ) → ((k : ℕ) → IsListed ls k → k < m) → Each (λ k. k < m) ls
+each-below m [] h = tt
+each-below m (l ∷ ls) h = (h l (listed-here l ls), each-below m ls (λ k w. h k (listed-there l k ls w)))
+
+falls-from : (ls : List ℕ) → IsFalling ls → Falls ls
+falls-from [] h = tt
+falls-from (l ∷ ls) h = (each-below l ls h.0, falls-from ls h.1)
+
 held-from : (c : ℕ) (ls : List ℕ) (l : ℕ) → (l < c) ⊎ IsListed ls l → IsHeld c ls l
 held-from c [] l (inl h) = h
 held-from c [] l (inr none) = absurd (true≢false (sym none))
@@ -91,6 +103,10 @@ module _ (s : Seen) (st : IsStore s) (f g : ℕ) (a : IsArgument s f) (b : IsArg
 
       good-unified : IsGood (unified (view_of s) ls (differ s.nodes.triples f g))
       good-unified = good_after (view_of s) st.good ls are-free (differ s.nodes.triples f g) fit-differ none_left
+
+      form-unified : IsForm (unified (view_of s) ls (differ s.nodes.triples f g))
+      unfolding view_of
+      form-unified = form_after (view_of s) st.good st.form ls are-free (falls-from ls el.falls) (differ s.nodes.triples f g) fit-differ are-held none_left
 
       solved-unified : IsSolved (view_of s) (unified (view_of s) ls (differ s.nodes.triples f g)) (function_of s.nodes.triples f) (function_of s.nodes.triples g)
       solved-unified = record {
@@ -129,6 +145,7 @@ module _ (s : Seen) (st : IsStore s) (f g : ℕ) (a : IsArgument s f) (b : IsArg
         pub store-solved : AreThere t.triples vs → length vs ≡ length s.slots → Each (λ c. c.slot < length s.slots) cs → IsStore (record s { slots = vs; trail = cs; nodes = t })
         store-solved there number within = record {
           good = subst IsGood (sym view-unified) good-unified;
+          form = subst IsForm (sym view-unified) form-unified;
           slots = λ x h. let w : x < length s.slots = st.slots x h in omega arith;
           levels = st.levels;
           constants = st.constants;

@@ -10,6 +10,8 @@ use Rattle.cb_dd.specs.declared.Triple.{Triple}
 use Rattle.cb_dd.specs.Diagram.{Store, IsNode, function_of}
 use Rattle.cb_ops.specs.Ops.{Grows, StandsFor}
 use Rattle.cb_boole.specs.Elimination.{Function}
+use Rattle.cb_boole.specs.Form.{IsForm}
+use Rattle.cb_boole.proofs.Form.{form_with_slot, form_with_variable, form_variables}
 use Rattle.cb_boole.specs.View.{View, IsGood, IsFit, InRange, point, with_at, with_slot, with_variable}
 use Rattle.cb_boole.proofs.Grow.{with_same, with_other, good_with_slot, fit_with_slot, good_with_variable, fit_with_variable, good_variables, range_new, range_old}
 use Rattle.cb_elim.specs.declared.Free.{Free}
@@ -59,6 +61,7 @@ pub store-held : (s : Seen) (f : Node) → IsStore s → IsArgument s f.0 → Is
 unfolding view_of
 store-held s f st a = record {
   good = subst IsGood (sym (view-held s f)) (good_with_slot (view_of s) st.good (length s.slots) (function_of s.nodes.triples f.0) (no-slot s st) a.fit);
+  form = subst IsForm (sym (view-held s f)) (form_with_slot (view_of s) st.good st.form (length s.slots) (function_of s.nodes.triples f.0) (no-slot s st));
   slots = λ x h. let w : x < length s.slots = st.slots x h in omega (arith, length-append s.slots (f ∷ []));
   levels = st.levels;
   constants = st.constants;
@@ -193,6 +196,8 @@ module _ (s : Seen) (n : Node) (st : IsStore s) (w : IsNode s.nodes.triples n.0)
   store-new = record {
     good = subst IsGood (sym view-new) (good_variables (with_variable (view_of s) s.drawn (length s.slots)) (IsVariableOf (s.free ++ record { level = s.drawn; slot = length s.slots } ∷ []))
         (good_with_variable (view_of s) st.good s.drawn (length s.slots) (no-slot s st) (unused s st) above) (λ y h. variable-into s.drawn (length s.slots) s.free y h));
+    form = subst IsForm (sym view-new) (form_variables (with_variable (view_of s) s.drawn (length s.slots)) (IsVariableOf (s.free ++ record { level = s.drawn; slot = length s.slots } ∷ []))
+        (form_with_variable (view_of s) st.good st.form s.drawn (length s.slots) (no-slot s st) (unused s st)));
     slots = λ y h. elim (variable-from s.drawn (length s.slots) s.free y h) [
       | inl old ↦ let r : y < length s.slots = st.slots y old in omega (arith, length-append s.slots (n ∷ []))
       | inr e ↦ omega (arith, length-append s.slots (n ∷ []))

@@ -8,6 +8,7 @@ use Rattle.cb_dd.specs.Diagram.{Store, IsNode, function_of}
 use Rattle.cb_ops.specs.Ops.{Grows, StandsFor}
 use Rattle.cb_ops.proofs.Ite.{grown-function, grown-node}
 use Rattle.cb_boole.specs.Elimination.{Function}
+use Rattle.cb_boole.specs.Form.{IsForm}
 use Rattle.cb_boole.specs.View.{View, IsGood, IsFit}
 use Rattle.cb_boole.proofs.Grow.{fit_constant, fit_two}
 use Rattle.cb_elim.specs.Store.{Seen, IsStore, IsArgument, OnlyNodes, AreThere, IsVariableOf, stands_in, value_in, view_of, with_fulls, empty}
@@ -32,6 +33,7 @@ view-still s t g h = ap (λ (v : ℕ → Function). with_values s v) (fun_ext (�
 pub store-still : (s : Seen) (t : Store) → IsStore s → Grows s.nodes t → IsStore (record s { nodes = t })
 store-still s t st g = record {
   good = subst IsGood (sym (view-still s t g st.nodes)) st.good;
+  form = subst IsForm (sym (view-still s t g st.nodes)) st.form;
   slots = st.slots;
   levels = st.levels;
   constants = st.constants;
@@ -49,7 +51,7 @@ argument-still s t st g n a = record {
 -- the count of refusals says nothing of the store
 pub store-fulls : (n : ℕ) (s : Seen) → IsStore s → IsStore (with_fulls n s)
 unfolding view_of
-store-fulls n s st = record { good = st.good; slots = st.slots; levels = st.levels; constants = st.constants; nodes = st.nodes; trail = st.trail }
+store-fulls n s st = record { good = st.good; form = st.form; slots = st.slots; levels = st.levels; constants = st.constants; nodes = st.nodes; trail = st.trail }
 
 pub argument-fulls : (n : ℕ) (s : Seen) (f : ℕ) → IsArgument s f → IsArgument (with_fulls n s) f
 unfolding view_of
@@ -91,6 +93,10 @@ empty-store constants budget = record {
     variable = λ l x e. absurd (let d : None ≡ Some x = e in cc);
     single = λ k l x e d. absurd (let d : None ≡ Some x = e in cc);
     fit = λ x. record { only = λ p q h. refl; kept = λ p. refl };
+  };
+  form = record {
+    own = λ l x e. absurd (let d : None ≡ Some x = e in cc);
+    picks = λ l x e. absurd (let d : None ≡ Some x = e in cc);
   };
   slots = λ x h. absurd h;
   levels = λ l x e. absurd (let d : None ≡ Some x = e in cc);

@@ -10,7 +10,7 @@ use Rattle.cb_dd.specs.declared.Node.{Node}
 use Rattle.cb_dd.specs.Diagram.{Store, IsNode, function_of}
 use Rattle.cb_ops.specs.Ops.{DependsOn}
 use Rattle.cb_ops.specs.Support.{IsListed}
-use Rattle.cb_boole.specs.Elimination.{Function, DependsOnly}
+use Rattle.cb_boole.specs.Elimination.{Function}
 use Rattle.cb_boole.specs.View.{View}
 use Rattle.cb_boole.specs.Form.{Names, IsSettledLeaf, AreSettled}
 use Rattle.cb_solution.proofs.Solved.{only-from, rising-more}

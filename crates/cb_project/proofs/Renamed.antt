@@ -1,24 +1,23 @@
 -- Leaves whose values are a parametric form already.
-use Rattle.std.proofs.Common.{◌≡◌, ◌⊎◌, inl, inr, ℕ, zero, suc, ◌+◌, ◌-◌, ◌*◌, ◌<◌, ◌≤◌, ◌^◌, Bool, true, false, cond, if◌then◌else◌, nat_eq, List, [], ◌∷◌, ◌++◌, map, length, take, slice_get, Option, Some, None, IsSome, refl, sym, ap, ap₂, ◌∙◌, subst, arith, length-append, eq-eqb, append-nil}
-use Rattle.std.proofs.lemmas.Bool.{cases_eq, ne_eqb}
+use Rattle.std.proofs.Common.{◌≡◌, ℕ, zero, suc, ◌+◌, ◌-◌, ◌*◌, ◌<◌, ◌≤◌, ◌^◌, Bool, true, false, cond, if◌then◌else◌, nat_eq, List, [], ◌∷◌, ◌++◌, map, length, take, slice_get, Some, None, refl, sym, ap, ap₂, ◌∙◌, subst, arith}
 use Rattle.std.proofs.lemmas.List.{take_all}
 use Rattle.std.proofs.lemmas.Option.{same_Some}
 use Rattle.std.proofs.Math.Path.{fun_ext}
-use Rattle.std.proofs.Math.Nat.{mul-le-mul_left, mul-le-mul_right}
+use Rattle.std.proofs.Math.Nat.{mul-le-mul_left}
 use Rattle.std.proofs.lemmas.Nat.{pow_pos}
 use Rattle.std.specs.Map.{lookup}
 use Rattle.std.specs.Option.{option_map_or}
 use Rattle.std.specs.List.Sorted.{IsStrictlyIncreasing}
-use Rattle.cb_model.specs.Bits.{Bits, Each, numbers_from}
+use Rattle.cb_model.specs.Bits.{Bits, numbers_from}
 use Rattle.cb_dd.specs.declared.Triple.{Triple}
 use Rattle.cb_dd.specs.declared.Node.{Node}
 use Rattle.cb_dd.specs.Diagram.{Store, IsNode, function_of}
-use Rattle.cb_ops.specs.Ops.{Grows, StandsFor, DependsOn}
+use Rattle.cb_ops.specs.Ops.{Grows, StandsFor}
 use Rattle.cb_ops.specs.Support.{IsListed}
 use Rattle.cb_ops.specs.Substitute.{Images, AreNodes, image_of, substituted}
 use Rattle.cb_dd.proofs.Diagrams.{function_of-zero, function_of-one}
 use Rattle.cb_ops.proofs.Ite.{grown-function, grown-node}
-use Rattle.cb_boole.specs.Elimination.{Function, DependsOnly}
+use Rattle.cb_boole.specs.Elimination.{Function}
 use Rattle.cb_boole.specs.Form.{named}
 use Rattle.cb_boole.specs.Parametric.{Reaches, values_at}
 use Rattle.cb_model.specs.Answers.{Gen}

@@ -5,7 +5,6 @@ use Rattle.std.specs.List.Sorted.{IsStrictlyIncreasing}
 use Rattle.cb_model.specs.Bits.{Bits, Each, numbers_from}
 use Rattle.cb_model.specs.Answers.{Gen}
 use Rattle.cb_dd.specs.declared.Triple.{Triple}
-use Rattle.cb_dd.specs.declared.Node.{Node}
 use Rattle.cb_dd.specs.Diagram.{IsNode}
 use Rattle.cb_ops.specs.Ops.{StandsFor}
 use Rattle.cb_ops.specs.Substitute.{Images}

@@ -1,4 +1,4 @@
-use Rattle.std.proofs.Common.{◌≡◌, ◌+◌, ◌≤◌, nat_eq, ap, inr, arith, ◌∙◌}
+use Rattle.std.proofs.Common.{◌+◌, ◌≤◌, nat_eq, ap, inr, arith, ◌∙◌}
 use Rattle.indexmap.proofs.CallerLemmas.{insert_entry-new}
 use Rattle.cb_project.proofs.renaming.give_name.Goals as goal
 

@@ -1,4 +1,4 @@
-use Rattle.std.proofs.Common.{◌⊎◌, ◌<◌, IsSome, subst, length}
+use Rattle.std.proofs.Common.{◌⊎◌, ◌<◌, IsSome, subst}
 use Rattle.std.proofs.lemmas.List.{take_all}
 use Rattle.cb_model.specs.Bits.{Each}
 use Rattle.cb_project.specs.Renaming.{names_in}

@@ -1,6 +1,6 @@
-use Rattle.std.proofs.Common.{◌≡◌, ◌+◌, take, get_or, slice_get, Some, length, ap, sym, refl, subst, ◌∙◌, arith}
+use Rattle.std.proofs.Common.{sym, refl, arith}
 use Rattle.cb_ops.proofs.Ite.{Grows-then}
-use Rattle.cb_project.proofs.Renamed.{images-next, images-all}
+use Rattle.cb_project.proofs.Renamed.{images-next}
 use Rattle.cb_project.proofs.renaming.parameters.Goals as goal
 
 pub loop-i-preserved : goal.loop-i-preserved

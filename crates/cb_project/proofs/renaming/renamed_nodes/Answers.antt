@@ -1,4 +1,4 @@
-use Rattle.std.proofs.Common.{[], map, subst, sym}
+use Rattle.std.proofs.Common.{map, subst, sym}
 use Rattle.std.specs.List.Sorted.{IsStrictlyIncreasing}
 use Rattle.cb_ops.specs.Substitute.{Images, AreNodes}
 use Rattle.cb_project.proofs.Nodes.{nodes-grown}

@@ -1,8 +1,6 @@
-use Rattle.std.proofs.Common.{◌≡◌, ◌⊎◌, ℕ, ◌<◌, ◌+◌, List, IsSome, Some, get_or, nat_eq, sym, ap, subst, ◌∙◌, arith}
-use Rattle.cb_dd.specs.declared.Node.{Node}
-use Rattle.cb_dd.specs.Diagram.{Store, IsNode, function_of}
+use Rattle.std.proofs.Common.{get_or, nat_eq, subst}
+use Rattle.cb_dd.specs.Diagram.{Store}
 use Rattle.cb_ops.specs.Ops.{DependsOn}
-use Rattle.cb_elim.specs.Store.{stands_in}
 use Rattle.cb_project.proofs.Names.{names-none, named-next, own-stands, value-node, value-function, cover-from}
 use Rattle.indexmap.specs.IndexMap.{get}
 use Rattle.cb_project.proofs.renaming.renaming.Goals as goal

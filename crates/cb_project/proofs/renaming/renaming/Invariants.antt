@@ -1,5 +1,3 @@
-use Rattle.std.proofs.Common.{◌≡◌, ℕ, nat_eq, Some}
-use Rattle.indexmap.specs.IndexMap.{get}
 use Rattle.cb_project.specs.Renaming.{AreNamed}
 use Rattle.cb_project.proofs.renaming.renaming.Given as goal
 
