@@ -244,35 +244,3 @@ fn find_or_add(table: &mut IndexSet<Triple>, triple: Triple) -> Result<usize, Al
         Err(_) => Err(AllocError),
     }
 }
-
-#[cfg(test)]
-mod tests {
-    use super::*;
-    use std::test::Fail;
-
-    #[test]
-    fn keeps_one_node_for_a_triple(rt: HostRuntime) -> Result<(), Fail> {
-        let mut dd = Dd::new(rt.alloc(), 1)?;
-        let node = dd.node(5, Node::ZERO, Node::ONE)?;
-        assert_eq!(rt; dd.node(5, Node::ZERO, Node::ONE), Ok(node));
-        assert_eq!(rt; dd.count(), 1);
-        assert_eq!(rt; dd.node(6, Node::ZERO, Node::ONE), Err(Stop::Nodes));
-        assert_eq!(rt; dd.node(6, Node::ONE, Node::ONE), Ok(Node::ONE));
-        Ok(())
-    }
-
-    #[test]
-    fn cuts_back_to_a_mark(rt: HostRuntime) -> Result<(), Fail> {
-        let mut dd = Dd::new(rt.alloc(), 2)?;
-        let kept = dd.node(1, Node::ONE, Node::ZERO)?;
-        let mark = dd.mark();
-        let _gone = dd.node(0, Node::ZERO, Node::ONE)?;
-        dd.cut(mark);
-        assert_eq!(rt; dd.count(), 1);
-        assert_eq!(rt; dd.parts(kept), Some((1, Node::ONE, Node::ZERO)));
-        assert_eq!(rt; dd.parts(Node::ONE), None);
-        let made = dd.node(2, Node::ZERO, Node::ONE)?;
-        assert_eq!(rt; made, Node(3));
-        Ok(())
-    }
-}

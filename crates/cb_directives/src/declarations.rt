@@ -11,7 +11,8 @@ ghost use Rattle.cb_directives.specs.Refusals.{IsFault};
 ghost use Rattle.cb_directives.specs.Checks.{never_waits, check_other, check_delay, arguments_of, Accepts, Refuses};
 
 use crate::fault::{Fault, LoadError};
-use crate::terms::{atom, is_reserved, named};
+use crate::reserved::is_reserved;
+use crate::terms::{atom, named};
 use crate::words::{has_nonvar, words};
 use cb_model::{RawTerm, Sort, When};
 use cb_names::{Names, Signs, Table};

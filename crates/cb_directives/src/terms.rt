@@ -1,10 +1,9 @@
 //! Written terms that are names.
 
-ghost use Rattle.std.specs.Prelude.{◌≡◌, ◌&&◌, false, map, length, MatchOption};
+ghost use Rattle.std.specs.Prelude.{◌≡◌, false, map, length, MatchOption};
 ghost use Rattle.cb_model.specs.Grammar.{Name, Last};
 ghost use Rattle.cb_model.specs.Forms.{form_of, forms_of};
 ghost use Rattle.cb_model.specs.Written.{is_name};
-ghost use Rattle.cb_model.specs.Directives.{same_sign, has_sign, reserved};
 ghost use Rattle.cb_directives.specs.Refusals.{is_atom};
 
 use cb_model::RawTerm;
@@ -25,22 +24,4 @@ pub fn atom<'s>(term: &RawTerm<'s>) -> Option<&'s [u8]>
 {
     let (name, args) = named(term)?;
     if args.is_empty() { Some(name) } else { None }
-}
-
-/// Whether a name with its number of arguments is this one.
-fn is(name: &[u8], count: usize, other: &[u8], others: usize) -> bool
-    ensures { result ≡ same_sign (name.now, count) (other.now, others) }
-{
-    name == other && count == others
-}
-
-/// Whether no directive may declare the name.
-pub(crate) fn is_reserved(name: &[u8], count: usize) -> bool
-    ensures { result ≡ has_sign reserved (name.now, count) }
-{
-    is(name, count, b"true", 0)
-        || is(name, count, b"fail", 0)
-        || is(name, count, b"circuit", 3)
-        || is(name, count, b"module", 4)
-        || is(name, count, b"spec", 3)
 }

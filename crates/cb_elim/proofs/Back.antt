@@ -245,6 +245,7 @@ store-drawn s n st = record {
   constants = let w : s.constants ≤ s.drawn = st.constants in omega arith;
   nodes = st.nodes;
   trail = st.trail;
+  changed = st.changed;
 }
 
 pub argument-drawn : (s : Seen) (n f : ℕ) → IsArgument s f → IsArgument (record s { drawn = s.drawn + n }) f

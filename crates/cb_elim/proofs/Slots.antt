@@ -10,9 +10,9 @@ use Rattle.cb_dd.specs.declared.Triple.{Triple}
 use Rattle.cb_dd.specs.Diagram.{Store, IsNode, function_of}
 use Rattle.cb_ops.specs.Ops.{Grows, StandsFor}
 use Rattle.cb_boole.specs.Elimination.{Function}
-use Rattle.cb_boole.specs.Form.{IsForm}
-use Rattle.cb_boole.proofs.Form.{form_with_slot, form_with_variable, form_variables}
 use Rattle.cb_boole.specs.View.{View, IsGood, IsFit, InRange, point, with_at, with_slot, with_variable}
+use Rattle.cb_boole.specs.Form.{IsForm}
+use Rattle.cb_boole.proofs.Form.{form_variables, form_with_slot, form_with_variable}
 use Rattle.cb_boole.proofs.Grow.{with_same, with_other, good_with_slot, fit_with_slot, good_with_variable, fit_with_variable, good_variables, range_new, range_old}
 use Rattle.cb_elim.specs.declared.Free.{Free}
 use Rattle.cb_elim.specs.declared.Change.{Change}
@@ -67,6 +67,7 @@ store-held s f st a = record {
   constants = st.constants;
   nodes = there-more s.nodes.triples s.slots f st.nodes a.node;
   trail = wider s.trail (length s.slots) (length (s.slots ++ f ∷ [])) (omega (arith, length-append s.slots (f ∷ []))) st.trail;
+  changed = st.changed;
 }
 
 pub held-argument : (s : Seen) (f : Node) → IsStore s → (n : ℕ) → IsArgument s n → IsArgument (record s { slots = s.slots ++ f ∷ [] }) n
@@ -209,6 +210,7 @@ module _ (s : Seen) (n : Node) (st : IsStore s) (w : IsNode s.nodes.triples n.0)
     constants = let c : s.constants ≤ s.drawn = st.constants in omega arith;
     nodes = there-more s.nodes.triples s.slots n st.nodes w;
     trail = wider s.trail (length s.slots) (length (s.slots ++ n ∷ [])) (omega (arith, length-append s.slots (n ∷ []))) st.trail;
+    changed = st.changed;
   }
 
   pub range-new : HasSameRange (view_of s) (view_of (with_new s n))

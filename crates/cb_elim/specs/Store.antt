@@ -70,6 +70,7 @@ pub record IsStore (s : Seen) : Type 0 where
   pub constants : s.constants ≤ s.drawn
   pub nodes : AreThere s.nodes.triples s.slots
   pub trail : Each (λ c. c.slot < length s.slots) s.trail
+  pub changed : Each (λ c. IsNode s.nodes.triples c.value.0) s.trail
 
 -- The condition on a node that is handed to the store. It depends on constants and free levels alone, and its value
 -- stays the same where each free level gets the bit which the slot of its variable has.

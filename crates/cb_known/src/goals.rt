@@ -9,9 +9,8 @@ ghost use Rattle.cb_model.specs.Directives.{same_sign, has_sign};
 ghost use Rattle.cb_model.specs.Loading.{first_atom as atom_first, names_module, plain_goals, module_sign, spec_sign, is_unknown as unknown, goal_unknown};
 ghost use Rattle.cb_known.specs.Modules.{AreNumbers};
 
-use crate::facts::is;
 use crate::modules::{Modules, first_atom};
-use cb_directives::{Declarations, named};
+use cb_directives::{Declarations, is_circuit, is_fail, is_module, is_spec, is_true, named};
 use cb_model::{RawGoal, RawTerm};
 use cb_names::Signs;
 
@@ -32,14 +31,14 @@ fn lacks_module<'s>(modules: &Modules<'s>, args: &[RawTerm<'s>]) -> bool
 fn is_plain(name: &[u8], count: usize) -> bool
     ensures { result ≡ has_sign plain_goals (name.now, count) }
 {
-    is(name, count, b"true", 0) || is(name, count, b"fail", 0)
+    is_true(name, count) || is_fail(name, count)
 }
 
 /// Whether a name is that of facts of circuits.
 fn is_fact_name(name: &[u8], count: usize) -> bool
     ensures { result ≡ (same_sign (name.now, count) module_sign || same_sign (name.now, count) spec_sign) }
 {
-    is(name, count, b"module", 4) || is(name, count, b"spec", 3)
+    is_module(name, count) || is_spec(name, count)
 }
 
 /// Whether a name has declared sorts.
@@ -77,7 +76,7 @@ fn is_unknown<'s>(
         return true;
     };
     let count = args.len();
-    if is(name, count, b"circuit", 3) {
+    if is_circuit(name, count) {
         lacks_module(modules, args)
     } else if is_fact_name(name, count) {
         true

@@ -7,7 +7,7 @@ ghost use Rattle.cb_model.specs.Forms.{form_of, forms_of, clause_form};
 ghost use Rattle.cb_model.specs.Loading.{first_atom as atom_first, module_names, module_number};
 ghost use Rattle.cb_known.specs.Modules.{number_of, AreNumbers, Names, with_module};
 
-use crate::facts::sign_is;
+use crate::facts::heads_module;
 use cb_directives::{atom, named};
 use cb_model::{RawClause, RawTerm};
 use cb_names::Table;
@@ -48,7 +48,7 @@ fn module_name<'s>(clause: &RawClause<'s>) -> Option<Option<&'s [u8]>>
     match clause {
         RawClause::Directive { .. } => None,
         RawClause::Rule { head, .. } => {
-            if sign_is(b"module", 4, head) {
+            if heads_module(head) {
                 match named(head) {
                     Some((_, args)) => Some(first_atom(args)),
                     None => Some(None),

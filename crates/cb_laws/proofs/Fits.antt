@@ -25,7 +25,7 @@ pub record Accepted (d : Declared) (b : Body) : Type 0 where
   pub free : is_taken b.head ≡ false
   pub clear : Clash d b → ⊥
 
-accepted : (d : Declared) (hs : List Sign) (ms : List (Option Text)) (b : Body) → BodyRefusal d hs ms b None → Accepted d b
+pub accepted : (d : Declared) (hs : List Sign) (ms : List (Option Text)) (b : Body) → BodyRefusal d hs ms b None → Accepted d b
 accepted d hs ms b h = step (is_taken b.head) (list_any (goal_unknown d hs ms) b.goals) refl h
   where
     step : (x y : Bool) → is_taken b.head ≡ x →
@@ -36,7 +36,7 @@ accepted d hs ms b h = step (is_taken b.head) (list_any (goal_unknown d hs ms) b
     step false false e (inr r) = record { free = e; clear = r.0 }
 
 -- a name that is free for clauses is not that of circuit goals
-not_circuit : (a : Sign) → same_sign circuit_sign a ≡ false → same_sign a circuit_sign ≡ false
+pub not_circuit : (a : Sign) → same_sign circuit_sign a ≡ false → same_sign a circuit_sign ≡ false
 not_circuit a h = step (same_sign a circuit_sign) refl
   where
     step : (b : Bool) → same_sign a circuit_sign ≡ b → b ≡ false
@@ -46,7 +46,7 @@ not_circuit a h = step (same_sign a circuit_sign) refl
         let wrong : same_sign circuit_sign circuit_sign ≡ false = subst (λ (c : Sign). same_sign circuit_sign c ≡ false) is h in
         absurd (cc)
 
-or_last : (a b c : Bool) → (a || b || c) ≡ false → c ≡ false
+pub or_last : (a b c : Bool) → (a || b || c) ≡ false → c ≡ false
 or_last true b c h = absurd (cc)
 or_last false true c h = absurd (cc)
 or_last false false c h = h

@@ -18,6 +18,9 @@ pub mod WrittenForm
 pub mod LineOfTokens
 pub mod Listed
 pub mod SortedTrees
+pub mod ScopedTrees
 pub mod SortedGoals
 pub mod Counts
 pub mod Fits
+pub mod ScopedGoals
+pub mod Operands

@@ -107,7 +107,7 @@ module _ (d : Declared) (b : Body) (none : Clash d b → ⊥) where
     places_sorted s x c = number_sorted (body_variables b) ss x s sorts (body_listed d b s x c) (inl (at_place c))
 
     -- a side has the sort of its equation
-    side_sorted : (k : ℕ) (s : Sort) (l r f : Form) → slice_get b.goals k ≡ Some (AnEqual l r) → HasSort d b (Equation k) s → (l ≡ f) ⊎ (r ≡ f) → AreSorted d n ss (below d f) → AreSorted d n ss ((s, f) ∷ below d f)
+    pub side_sorted : (k : ℕ) (s : Sort) (l r f : Form) → slice_get b.goals k ≡ Some (AnEqual l r) → HasSort d b (Equation k) s → (l ≡ f) ⊎ (r ≡ f) → AreSorted d n ss (below d f) → AreSorted d n ss ((s, f) ∷ below d f)
     side_sorted k s l r f at has is rest t x c = elim (Contains-append_cases ((s, f) ∷ []) (below d f) (t, Variable x) c) [
       | inl here ↦ itself (one_one {X = Place} (s, f) (t, Variable x) here)
       | inr there ↦ rest t x there

@@ -112,7 +112,7 @@ pub all_both : {A : Type 0} (p : A → Bool) (xs ys : List A) → list_all p xs 
 all_both p [] ys h k = k
 all_both p (x ∷ xs) ys h k = let e = and_parts (p x) (list_all p xs) h in and_both (p x) (list_all p (xs ++ ys)) e.0 (all_both p xs ys e.1 k)
 
-all_map : {A : Type 0} (p : A → Bool) (xs : List A) → list_all p xs ≡ true → all_of (map p xs) ≡ true
+pub all_map : {A : Type 0} (p : A → Bool) (xs : List A) → list_all p xs ≡ true → all_of (map p xs) ≡ true
 all_map p [] h = refl
 all_map p (x ∷ xs) h = let e = and_parts (p x) (list_all p xs) h in and_both (p x) (all_of (map p xs)) e.0 (all_map p xs e.1)
 

@@ -5,22 +5,23 @@ use Rattle.cb_model.specs.declared.Expr.{Expr}
 use Rattle.cb_model.specs.declared.Tree.{Tree}
 use Rattle.cb_model.specs.declared.Tree.TheVariants as tree
 use Rattle.cb_model.specs.declared.Goal.{Goal}
+use Rattle.cb_model.specs.declared.Goal.TheVariants as goal
 use Rattle.cb_model.specs.declared.Clause.{Clause}
 use Rattle.cb_model.specs.Directives.{Sign, has_sign, Declared, sorts_of, directives, heads}
-use Rattle.cb_model.specs.Sorted.{clause_fits, goal_fits}
+use Rattle.cb_model.specs.Sorted.{clause_fits, goal_fits, operands_fit}
 use Rattle.cb_model.specs.Loading.{module_names, body_of, query_body, BodyRefusal, IsClause, signs_of, goals_signs}
 use Rattle.cb_model.specs.Output.{Loaded, IsLoaded, IsQuery}
 use Rattle.cb_model.specs.Bits.{Bits, Each, bits_of, some_bits, every_bits, xor}
 use Rattle.cb_model.specs.Text.{Text}
-use Rattle.cb_model.specs.Values.{Admitted, World, expr_value, in_scope}
-use Rattle.cb_model.specs.Equations.{Item, Pair, Solvable, Refuted, Table, ReadsBelow}
+use Rattle.cb_model.specs.Values.{Admitted, World, expr_value, in_scope, tree_in_scope}
+use Rattle.cb_model.specs.Equations.{Item, Pair, Solvable, Refuted, Table, ReadsBelow, Substitution, Solves}
 use Rattle.cb_model.specs.Program.{Program}
 use Rattle.cb_model.specs.Derivation.{Ready, Entry, Branch, Step, Query, Note, End, Plain, SoFar, printed_of}
 use Rattle.cb_model.specs.Answers.{leaves, IsShape, Gives, Denotes}
 use Rattle.cb_model.specs.Line.{Names, printed_terms, IsLine}
 use Rattle.cb_model.specs.Room.{room_with, BelowRoom}
 use Rattle.cb_model.specs.Tokens.{Token, Fault, Lexes, line_at}
-use Rattle.cb_model.specs.Written.{AreClauses, AreQueries, is_name}
+use Rattle.cb_model.specs.Written.{AreClauses, AreQueries, is_name, goal_written}
 use Rattle.cb_model.specs.Grammar.{IsReading, Whole, Form, FormGoal, FormClause, FormQuery, ReadsClause, ReadsQuery, ReadsAll}
 
 -- ---- Boolean pairs
@@ -64,6 +65,10 @@ SolvableDecided = (w : World) (c v : ℕ) (es : List Equal) → pairs_in_scope c
 abbrev pub SolvableByTablesBelow : Type 0
 SolvableByTablesBelow = (w : World) (c v : ℕ) (es : List Equal) → pairs_in_scope c v es ≡ true →
     Solvable w (map pair_item es) ↔ ((x : ℕ → Table) × ((n : ℕ) → ReadsBelow c (x n)) × SolvesAll es x)
+
+-- equations of all sorts and circuit items that have a solution in the algebra are solvable
+abbrev pub SolutionGivesValues : Type 0
+SolutionGivesValues = (w : World) (es : List Item) (s : Substitution) → Solves w es s → Solvable w es
 
 -- ---- the derivation
 
@@ -149,6 +154,30 @@ abbrev pub TreesFit : Type 0
 TreesFit = (file : Text) (l : Loaded) (gs : List FormGoal) (p : Program) (q : Query) (names : Names) → IsLoaded file l →
     BodyRefusal l.declared (heads l.clauses) (module_names l.clauses) (query_body gs) None → IsQuery l gs p q names →
     (list_all (clause_fits p.world.arguments) p.clauses ≡ true) × (list_all (goal_fits p.world.arguments q.sorts) q.goals ≡ true)
+
+-- the trees of a goal
+abbrev pub goal_trees : Goal → List Tree
+goal_trees (goal.Equal l r) = l ∷ r ∷ []
+goal_trees (goal.Circuit m ins outs) = ins ∷ outs ∷ []
+goal_trees (goal.Call pred args) = args
+goal_trees _ = []
+
+-- the trees of a clause
+abbrev pub clause_trees : Clause → List Tree
+clause_trees c = c.head ++ flat_map goal_trees c.body
+
+-- The clauses of the program of an accepted file have only constants of the file and variables of their own, and so have
+-- the goals of an accepted query over it.
+abbrev pub TreesInScope : Type 0
+TreesInScope = (file : Text) (l : Loaded) (gs : List FormGoal) (p : Program) (q : Query) (names : Names) → IsLoaded file l →
+    BodyRefusal l.declared (heads l.clauses) (module_names l.clauses) (query_body gs) None → IsQuery l gs p q names →
+    (list_all (λ c. list_all (tree_in_scope p.constants (length c.sorts)) (clause_trees c)) p.clauses ≡ true) ×
+    (list_all (tree_in_scope p.constants (length q.sorts)) (flat_map goal_trees q.goals) ≡ true)
+
+-- In the clauses of the program of an accepted file each chain has an operand, and so in the goals of a written query.
+abbrev pub ChainsHaveOperands : Type 0
+ChainsHaveOperands = (file : Text) (l : Loaded) (gs : List FormGoal) (p : Program) (q : Query) (names : Names) → IsLoaded file l → list_all goal_written gs ≡ true → IsQuery l gs p q names →
+    (list_all (λ c. list_all operands_fit (clause_trees c)) p.clauses ≡ true) × (list_all operands_fit (flat_map goal_trees q.goals) ≡ true)
 
 -- ---- the grammar
 

@@ -1,7 +1,7 @@
 //! Laws of the definitions: each is the contract of a function that does nothing.
 #![tactic(auto)]
 
-ghost use Rattle.cb_laws.specs.Laws.{SolvableByTables, SolvableDecided, SolvableByTablesBelow, ReadyStays, StepDetermined, RunDetermined, SameBeginning, SamePrints, PrintedAreSolvable, PrintedDenote, FormDenotes, DirectivesCount, ClausesFit, TreesFit, ShapeIsOne, LineIsOne, RoomIsOne, RoomOfNone, TokenLines, ReadingIsWritten, ClausesAreOne, QueriesAreOne};
+ghost use Rattle.cb_laws.specs.Laws.{SolvableByTables, SolvableDecided, SolvableByTablesBelow, SolutionGivesValues, ReadyStays, StepDetermined, RunDetermined, SameBeginning, SamePrints, PrintedAreSolvable, PrintedDenote, FormDenotes, DirectivesCount, ClausesFit, TreesFit, TreesInScope, ChainsHaveOperands, ShapeIsOne, LineIsOne, RoomIsOne, RoomOfNone, TokenLines, ReadingIsWritten, ClausesAreOne, QueriesAreOne};
 
 /// Boolean equations are solvable exactly where they have a solution in the algebra (Boole).
 pub fn solvable_by_tables()
@@ -17,6 +17,11 @@ pub fn solvable_decided()
 /// these constants.
 pub fn solvable_by_tables_below()
     ensures { SolvableByTablesBelow }
+{}
+
+/// Equations of all sorts and circuit items that have a solution in the algebra are solvable.
+pub fn solution_gives_values()
+    ensures { SolutionGivesValues }
 {}
 
 /// A goal that is ready stays ready after more equations.
@@ -54,11 +59,14 @@ pub fn form_denotes()
 
 /// A name has as many sorts as arguments, whatever the accepted directives of a file declare. So in the clauses of its
 /// rules and in the goals of a query over it, each place has a tree of its sort: each variable has the sort of its
-/// place, and each compound the arguments that its name has.
+/// place, and each compound the arguments that its name has; constants and variables are those that
+/// there are, and each chain has an operand.
 pub fn trees_fit()
     ensures counted { DirectivesCount }
     ensures clauses { ClausesFit }
     ensures whole { TreesFit }
+    ensures scope { TreesInScope }
+    ensures operands { ChainsHaveOperands }
 {}
 
 /// A list of tokens is read as one list of clauses at most.

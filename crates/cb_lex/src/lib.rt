@@ -145,6 +145,3 @@ impl<'s> Lexer<'s> {
 pub fn one_token_list()
     ensures { OneTokenList }
 {}
-
-#[cfg(test)]
-mod tests;

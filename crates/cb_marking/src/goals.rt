@@ -4,26 +4,18 @@ ghost use Rattle.std.specs.Prelude.{◌≡◌, ◌&&◌, ℕ, [], true, map, len
 ghost use Rattle.std.specs.List.{list_all};
 ghost use Rattle.cb_model.specs.Forms.{form_of, goal_form};
 ghost use Rattle.cb_model.specs.Written.{is_name, is_written, goal_written};
-ghost use Rattle.cb_model.specs.Directives.{same_sign};
-ghost use Rattle.cb_model.specs.Sorts.{form_sort, below, call_places, goal_places, goals_places, circuit_sign};
+ghost use Rattle.cb_model.specs.Sorts.{form_sort, below, call_places, goal_places, goals_places};
 ghost use Rattle.cb_marking.specs.Places.{is_bit};
 ghost use Rattle.cb_marking.specs.Walk.{noted, gave_some, side_walked, goal_walked, goals_walked, fresh, Walks, Meets, Stops, Memory};
 
 use crate::terms::{is_bit, sort_by_form};
 use crate::walk::Walk;
-use cb_directives::Declarations;
+use cb_directives::{Declarations, is_circuit};
 use cb_marks::{Links, Stop};
 use cb_model::{RawGoal, RawTerm, Sort};
 use cb_variables::Variables;
 use sqlite_items::Items;
 use std::alloc::Global;
-
-/// Whether a name with its number of arguments is that of circuit goals.
-fn is_circuit(name: &[u8], count: usize) -> bool
-    ensures { result ≡ same_sign (name.now, count) circuit_sign }
-{
-    name == b"circuit".as_slice() && count == 3
-}
 
 impl<'s> Walk<'s> {
     /// Nothing is met, of a rule or query with so many goals.

@@ -7,6 +7,3 @@ mod terms;
 mod walk;
 
 pub use marking::{Marking, mark_query, mark_rule};
-
-#[cfg(test)]
-mod tests;

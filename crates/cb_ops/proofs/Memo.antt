@@ -1,5 +1,5 @@
 -- The memo after one more answer, after more nodes, and after a cut.
-use Rattle.std.proofs.Common.{◌≡◌, ℕ, ◌+◌, ◌≤◌, Bool, true, cond, ◌&&◌, List, ◌++◌, length, take, drop, nat_eq, Some, if◌then◌else◌, sym, ap, subst, ◌∙◌, inl, inr, arith, length-append}
+use Rattle.std.proofs.Common.{◌≡◌, ℕ, ◌+◌, ◌≤◌, Bool, true, cond, ◌&&◌, List, [], ◌++◌, length, take, drop, nat_eq, None, Some, if◌then◌else◌, sym, ap, subst, ◌∙◌, inl, inr, arith, length-append}
 use Rattle.std.proofs.lemmas.Bool.{and_parts, eqb-true, cases_Bool}
 use Rattle.std.proofs.lemmas.Option.{same_Some}
 use Rattle.std.proofs.lemmas.List.{take-append-drop}
@@ -87,6 +87,14 @@ IsMemo-cut m bound ts to is within old = record {
   diagram = is;
   within = within;
   right = λ c r at. answer-front bound (take to ts) (drop to ts) c r within (subst (λ us. IsAnswer us bound c r) (sym (take-append-drop to ts)) (old.right c r at));
+}
+
+-- a memo without answers
+pub IsMemo-empty : {S : Type 0} (m n : IndexMap Call ℕ S) (bound : ℕ) (ts : List Triple) → IsMemo m bound ts → n.entries ≡ [] → IsMemo n bound ts
+IsMemo-empty m n bound ts old none = record {
+  diagram = old.diagram;
+  within = old.within;
+  right = λ c r at. absurd (let d : None ≡ Some r = sym (ap (lookup (call_eq c)) none) ∙ at in cc);
 }
 
 -- by what a call says of its two outcomes

@@ -1,5 +1,5 @@
 -- The memo of `xor` after one more answer, after more nodes, and after a cut.
-use Rattle.std.proofs.Common.{◌≡◌, ◌⊎◌, ℕ, ◌+◌, ◌<◌, ◌≤◌, Bool, true, false, cond, ◌&&◌, List, ◌++◌, length, take, drop, nat_eq, Some, refl, sym, ap, subst, ◌∙◌, inl, inr, arith}
+use Rattle.std.proofs.Common.{◌≡◌, ◌⊎◌, ℕ, ◌+◌, ◌<◌, ◌≤◌, Bool, true, false, cond, ◌&&◌, List, [], ◌++◌, length, take, drop, nat_eq, None, Some, refl, sym, ap, subst, ◌∙◌, inl, inr, arith}
 use Rattle.std.proofs.lemmas.Bool.{and_parts, eqb-true, cases_Bool}
 use Rattle.std.proofs.lemmas.Option.{same_Some}
 use Rattle.std.proofs.lemmas.List.{take-append-drop}
@@ -43,6 +43,10 @@ module _ {S : Type 0} (m n : IndexMap Pair ℕ S) (bound wide : ℕ) (ts : List 
 
 pub IsPairs-wide : {S : Type 0} (m : IndexMap Pair ℕ S) (bound wide : ℕ) (ts : List Triple) → bound ≤ wide → IsPairs m bound ts → IsPairs m wide ts
 IsPairs-wide m bound wide ts le old = record { right = λ c r at. answer-wide ts bound wide c r le (old.right c r at) }
+
+-- a memo without answers
+pub IsPairs-empty : {S : Type 0} (n : IndexMap Pair ℕ S) (bound : ℕ) (ts : List Triple) → n.entries ≡ [] → IsPairs n bound ts
+IsPairs-empty n bound ts none = record { right = λ c r at. absurd (let d : None ≡ Some r = sym (ap (lookup (pair_eq c)) none) ∙ at in cc) }
 
 two : (x y z w : Bool) → x ≡ z → y ≡ w → xor x y ≡ xor z w
 two x y z w p q = λ j. xor (p j) (q j)

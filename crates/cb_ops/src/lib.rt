@@ -6,7 +6,6 @@ ghost use Rattle.cb_model.specs.Bits.{Bits, xor, put};
 ghost use Rattle.indexmap.specs.IndexMap.{get};
 ghost use Rattle.cb_ops.specs.Done.{node_eq};
 ghost use Rattle.cb_ops.specs.Substitute.{AreNodes, AllSubstituted, SubstituteCause, SubstituteRoom, IsJoined, JoinRoom, image_of, substituted};
-ghost use Rattle.cb_ops.specs.Support.{IsWithin, AllWithin, IsGathered};
 ghost use Rattle.cb_dd.specs.Diagram.{Store, IsDiagram, IsCanonical, IsNode, IsChild, IsFull, HasParts, Holds, function_of, level_of, fulls_after, parts_of, triple};
 ghost use Rattle.std.specs.List.Sorted.{IsStrictlyIncreasing};
 ghost use Rattle.cb_ops.specs.Ops.{Grows, StandsFor, IsIte, IsXor, IsCofactor, Room, HasCause, DependsOn, IsFree, IsLeastTrue, IsLeastSide};
@@ -15,6 +14,7 @@ ghost use Rattle.cb_ops.specs.Waiting.{AreCalled, Asked, Resumed, Waits, IsHalf,
 ghost use Rattle.cb_ops.specs.Pair.{IsSamePair};
 ghost use Rattle.cb_ops.specs.declared.Call.{Call};
 
+mod levels;
 mod replace;
 mod sides;
 mod walk;
@@ -24,13 +24,14 @@ use indexmap::{IndexMap, IndexSet};
 use smallvec::SmallVec;
 use std::alloc::{AllocError, Global};
 use std::marker::Model;
+use std::mem;
 
 /// Levels, rising; up to 16 of them take no memory.
 pub type Levels = SmallVec<u32, 16>;
 
-/// How many answers the memo holds at most, which begins empty and grows as it fills. It is cleared when it holds as
-/// many, and in a store of more than four times as many nodes when it holds a quarter as many as there are nodes, so
-/// that an operation on large diagrams doesn't lose what it has just found.
+/// How many answers a memo holds at most, and in a store of more than four times as many nodes a quarter as many as
+/// there are nodes. It begins empty and grows as it fills; when it is full a new one begins, and the one before it is
+/// still looked up, so that an operation never loses what it has just found.
 ///
 /// Measured on the multiplier of 11 bits (3.5 million nodes) and nine queens (231,000 nodes), the best of three runs of
 /// each in turn: a quarter of the nodes 7.3 s and 0.42 s, never more than 65,536 answers 7.4 s and 0.46 s, as many as
@@ -101,6 +102,9 @@ pub struct Ops {
     dd: Dd,
     memo: IndexMap<Call, u32>,
     pairs: IndexMap<Pair, u32>,
+    // The answers that were found before these.
+    old_memo: IndexMap<Call, u32>,
+    old_pairs: IndexMap<Pair, u32>,
     // Above the numbers of all nodes that the memo names.
     bound: usize,
 }
@@ -115,7 +119,7 @@ impl Model for Ops {
 
     ghost view = { λ o. o.dd };
 
-    ghost invariant = { λ o. IsMemo o.memo o.bound o.dd.triples × IsPairs o.pairs o.bound o.dd.triples };
+    ghost invariant = { λ o. IsMemo o.memo o.bound o.dd.triples × IsPairs o.pairs o.bound o.dd.triples × IsMemo o.old_memo o.bound o.dd.triples × IsPairs o.old_pairs o.bound o.dd.triples };
 }
 
 impl Ops {
@@ -129,6 +133,8 @@ impl Ops {
             dd,
             memo: IndexMap::new(alloc),
             pairs: IndexMap::new(alloc),
+            old_memo: IndexMap::new(alloc),
+            old_pairs: IndexMap::new(alloc),
             bound: 2,
         })
     }
@@ -212,6 +218,8 @@ impl Ops {
         let alloc = *self.memo.allocator();
         self.memo = IndexMap::new(alloc);
         self.pairs = IndexMap::new(alloc);
+        self.old_memo = IndexMap::new(alloc);
+        self.old_pairs = IndexMap::new(alloc);
         self.bound = 2;
         self.dd.cut(to);
     }
@@ -462,49 +470,6 @@ impl Ops {
         }
     }
 
-    /// The levels on which the node depends, rising.
-    pub fn support(&self, f: Node) -> Result<Levels, AllocError>
-        requires { IsNode self.now.triples f.0 }
-        ensures rise { IfOk result (λ levels. IsStrictlyIncreasing levels.items) }
-        ensures enough { IfOk result (λ levels. DependsOn self.now.triples f.0 levels.items) }
-        ensures needed { IfOk result (λ levels. (l : ℕ) → Contains levels.items l → IsFree self.now.triples f.0 l → ⊥) }
-    {
-        let alloc = *self.memo.allocator();
-        let mut seen = IndexSet::new(alloc);
-        let mut levels = IndexSet::new(alloc);
-        self.gather(f, &mut seen, &mut levels)?;
-        levels.sort()?;
-        let list = SmallVec::from_slice(alloc, levels.as_slice())?;
-        Ok(list)
-    }
-
-    // Adds the levels of the nodes below and at this one; those of the nodes that were seen are there already.
-    fn gather(
-        &self,
-        f: Node,
-        seen: &mut IndexSet<Node>,
-        levels: &mut IndexSet<u32>,
-    ) -> Result<(), AllocError>
-        requires node { IsNode self.now.triples f.0 }
-        requires seen { AllWithin seen.old.keys self.now.triples levels.old.keys }
-        ensures seen { AllWithin seen.new.keys self.now.triples levels.new.keys }
-        ensures found { OnOk result (IsWithin self.now.triples f.0 levels.new.keys) }
-        ensures gathered { IsGathered self.now.triples f.0 levels.old.keys levels.new.keys }
-    {
-        let _count = self.count();
-        let Some((at, lo, hi)) = self.parts(f) else {
-            return Ok(());
-        };
-        if seen.contains(&f) {
-            return Ok(());
-        }
-        levels.insert(at)?;
-        self.gather(lo, seen, levels)?;
-        self.gather(hi, seen, levels)?;
-        seen.insert(f)?;
-        Ok(())
-    }
-
     // The level of a node, above all levels for the constants.
     fn level(&self, n: Node) -> u64
         requires { IsNode self.now.triples n.0 }
@@ -621,7 +586,10 @@ impl Ops {
         ensures ite { IfSome result (λ r. IsIte self.now.triples self.now.triples f.0 g.0 h.0 r.0) }
     {
         let call = call_of(f, g, h)?;
-        match self.memo.get(&call) {
+        if let Some(r) = self.memo.get(&call) {
+            return Some(Node(*r as usize));
+        }
+        match self.old_memo.get(&call) {
             Some(r) => Some(Node(*r as usize)),
             None => None,
         }
@@ -654,7 +622,10 @@ impl Ops {
         ensures xor { IfSome result (λ r. IsXor self.now.triples self.now.triples f.0 g.0 r.0) }
     {
         let pair = pair_of(f, g)?;
-        match self.pairs.get(&pair) {
+        if let Some(r) = self.pairs.get(&pair) {
+            return Some(Node(*r as usize));
+        }
+        match self.old_pairs.get(&pair) {
             Some(r) => Some(Node(*r as usize)),
             None => None,
         }
@@ -680,17 +651,34 @@ impl Ops {
         let _ = self.pairs.insert(pair, answer);
     }
 
-    // Clears the memo where it is full.
+    // Makes room in the memos: where one is full, its answers become the old ones, and the old ones go.
     fn make_room(&mut self)
         ensures same { self.new ≡ self.old }
         ensures small { length self.new.triples < 2 ^ 63 }
     {
         let room = MEMO_ROOM.max(self.dd.count() / 4);
-        if room <= self.memo.len() || room <= self.pairs.len() {
-            self.memo.clear();
-            self.pairs.clear();
-            self.bound = 2;
+        if room <= self.memo.len() {
+            self.renew_memo();
         }
+        if room <= self.pairs.len() {
+            self.renew_pairs();
+        }
+    }
+
+    // The answers of `ite` become the old ones.
+    fn renew_memo(&mut self)
+        ensures same { self.new ≡ self.old }
+    {
+        mem::swap(&mut self.memo, &mut self.old_memo);
+        self.memo.clear();
+    }
+
+    // The answers of `xor` become the old ones.
+    fn renew_pairs(&mut self)
+        ensures same { self.new ≡ self.old }
+    {
+        mem::swap(&mut self.pairs, &mut self.old_pairs);
+        self.pairs.clear();
     }
 }
 
@@ -776,88 +764,4 @@ fn remember(done: &mut IndexMap<Node, Node>, n: Node, r: Node)
         → ((q ≡ n) × (v ≡ r)) ⊎ (get node_eq done.old q ≡ Some v) }
 {
     let _ = done.insert(n, r);
-}
-
-#[cfg(test)]
-mod tests {
-    use super::*;
-    use std::test::Fail;
-
-    // A store with the bits at levels 0 and 1.
-    fn two_bits(alloc: Global) -> Result<(Ops, Node, Node), Fail>
-        ensures { IfOk result (λ p. IsNode p.0.triples p.1.0 × IsNode p.0.triples p.2.0) }
-    {
-        let mut ops = Ops::new(alloc, 100)?;
-        let x = ops.node(0, Node::ZERO, Node::ONE)?;
-        let y = ops.node(1, Node::ZERO, Node::ONE)?;
-        Ok((ops, x, y))
-    }
-
-    fn is_here(ops: &Ops, n: Node) -> bool
-        ensures { IsTrue result ↔ IsNode ops.now.triples n.0 }
-    {
-        n.0 < ops.count() + 2
-    }
-
-    #[test]
-    fn connects_two_bits(rt: HostRuntime) -> Result<(), Fail> {
-        let (mut ops, x, y) = two_bits(rt.alloc())?;
-        let both = ops.and(x, y)?;
-        assert!(rt; is_here(&ops, x) && is_here(&ops, y));
-        assert_eq!(rt; ops.parts(both), Some((0, Node::ZERO, y)));
-        let either = ops.or(y, x)?;
-        assert!(rt; is_here(&ops, x) && is_here(&ops, y));
-        assert_eq!(rt; ops.parts(either), Some((0, y, Node::ONE)));
-        let other = ops.not(y)?;
-        assert!(rt; is_here(&ops, x) && is_here(&ops, y));
-        let one = ops.xor(x, y)?;
-        assert_eq!(rt; ops.parts(one), Some((0, y, other)));
-        Ok(())
-    }
-
-    #[test]
-    fn chooses_between_nodes(rt: HostRuntime) -> Result<(), Fail> {
-        let (mut ops, x, y) = two_bits(rt.alloc())?;
-        let other = ops.not(x)?;
-        assert_eq!(rt; ops.not(other), Ok(x));
-        assert!(rt; is_here(&ops, x) && is_here(&ops, y));
-        let both = ops.and(y, x)?;
-        assert!(rt; is_here(&ops, x) && is_here(&ops, y));
-        assert_eq!(rt; ops.ite(x, y, Node::ZERO), Ok(both));
-        Ok(())
-    }
-
-    #[test]
-    fn takes_cofactors_and_the_support(rt: HostRuntime) -> Result<(), Fail> {
-        let (mut ops, x, y) = two_bits(rt.alloc())?;
-        let both = ops.and(x, y)?;
-        assert_eq!(rt; ops.restrict(both, 0, true), Ok(y));
-        assert!(rt; is_here(&ops, both));
-        assert_eq!(rt; ops.exists(both, 0), Ok(y));
-        assert!(rt; is_here(&ops, both));
-        let levels = ops.support(both)?;
-        assert_eq!(rt; levels.as_slice(), [0, 1].as_slice());
-        Ok(())
-    }
-
-    #[test]
-    fn replaces_a_level(rt: HostRuntime) -> Result<(), Fail> {
-        let (mut ops, x, y) = two_bits(rt.alloc())?;
-        let both = ops.and(x, y)?;
-        assert!(rt; is_here(&ops, x));
-        assert_eq!(rt; ops.substitute(both, &[(1, x)]), Ok(x));
-        Ok(())
-    }
-
-    #[test]
-    fn finds_the_least_assignment(rt: HostRuntime) -> Result<(), Fail> {
-        let (mut ops, x, y) = two_bits(rt.alloc())?;
-        let either = ops.or(x, y)?;
-        let levels = ops.support(either)?;
-        let mut bits = [true, false];
-        assert_eq!(rt; levels.len(), 2);
-        assert!(rt; ops.least_true(either, levels.as_slice(), &mut bits));
-        assert_eq!(rt; bits, [false, true]);
-        Ok(())
-    }
 }

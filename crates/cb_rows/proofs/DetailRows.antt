@@ -66,7 +66,7 @@ open_form h =
 
 -- ---- long lists
 
-count : {T : Type 0} (n : ℕ) (x : T) → length (copies n x) ≡ n
+pub count : {T : Type 0} (n : ℕ) (x : T) → length (copies n x) ≡ n
 count zero x = refl
 count (suc n) x = ap suc (count n x)
 

@@ -28,3 +28,4 @@ pub mod StopRow
 pub mod BoundRows
 pub mod StepRows
 pub mod SortedRows
+pub mod TableRows

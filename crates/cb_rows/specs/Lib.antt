@@ -26,3 +26,4 @@ pub mod StopRow
 pub mod BoundExamples
 pub mod StepExamples
 pub mod SortedExamples
+pub mod TableExamples

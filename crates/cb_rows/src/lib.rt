@@ -14,6 +14,7 @@ ghost use Rattle.cb_rows.specs.RoomExamples.{RoomExamples};
 ghost use Rattle.cb_rows.specs.SolutionExamples.{SolutionExamples};
 ghost use Rattle.cb_rows.specs.SortedExamples.{SortedExamples};
 ghost use Rattle.cb_rows.specs.StepExamples.{StepExamples};
+ghost use Rattle.cb_rows.specs.TableExamples.{TableExamples};
 ghost use Rattle.cb_rows.specs.TextExamples.{TextExamples};
 
 /// Worked sizes and bounds, each number with what one more or one less would break.
@@ -79,6 +80,11 @@ pub fn sorted_examples()
 /// Worked steps: what each kind of step counts and numbers, and what is known of a value.
 pub fn step_examples()
     ensures { StepExamples }
+{}
+
+/// Worked tables: gates, the numbers of refusals, and the names that are kept.
+pub fn table_examples()
+    ensures { TableExamples }
 {}
 
 /// Worked texts: tokens, clauses, nestings and faults.

@@ -1,5 +1,5 @@
 -- What each exit of the reading functions adds, over plain tokens: clauses and queries.
-use Rattle.std.proofs.Common.{◌≡◌, ℕ, ◌-◌, true, false, inl, inr, List, [], ◌∷◌, ◌++◌, None, refl, sym, ◌∙◌, ap, subst, arith, append_assoc, append-nil}
+use Rattle.std.proofs.Common.{◌≡◌, ℕ, ◌-◌, Bool, true, false, inl, inr, List, [], ◌∷◌, ◌++◌, None, refl, sym, ◌∙◌, ap, subst, arith, append_assoc, append-nil}
 use Rattle.cb_model.specs.declared.Kind.{Kind}
 use Rattle.cb_model.specs.declared.Kind.TheVariants as kind
 use Rattle.cb_model.specs.Tokens.{Token, name_of}
@@ -11,7 +11,7 @@ use Rattle.cb_syntax.specs.declared.read.Stop.{Stop}
 use Rattle.cb_syntax.specs.declared.read.Stop.TheVariants.{Ended, Wrong}
 use Rattle.cb_syntax.specs.Answers.{Agrees, IsText, NoText}
 use Rattle.cb_syntax.specs.Steps.{TookTerms, NoTerms, TookCall, NoCall, Ahead, AheadOf, Only, NotAhead}
-use Rattle.cb_syntax.specs.Pieces.{TookGoals, NoGoals, TookClause, NoClause, TookQuery, NoQuery}
+use Rattle.cb_syntax.specs.Pieces.{TookGoals, NoGoals, TookTail, NoTail, TookClause, NoClause, TookQuery, NoQuery}
 use Rattle.cb_syntax.proofs.Moves.{taken, refused, agrees, left_is, atom_small}
 use Rattle.cb_syntax.proofs.GoalMoves.{alike_at}
 use Rattle.cb_syntax.proofs.Whole.{Starts, stopped, whole}
@@ -91,39 +91,49 @@ module _ (all at : ℕ) (ts us : List Token) (t : Token) (a : Ahead all at ts t 
     to_tail : run (Clauses ∷ []) (0 ∷ []) ts ≡ run (ClauseTail ∷ Clauses ∷ []) (0 ∷ []) vs
     to_tail = to_head ∙ s.runs (ClauseTail ∷ Clauses ∷ []) 0 [] refl
 
-    pub tail_ended : vs ≡ [] → NoClause ts Ended
-    tail_ended e = to_tail ∙ ap (run (ClauseTail ∷ Clauses ∷ []) (0 ∷ [])) e
+    pub tail_stops : (e : Stop) → NoTail vs e → NoClause ts e
+    tail_stops e r = agrees e _ _ to_tail r
 
-    module _ (after : ℕ) (n : Token) (ws : List Token) (b : Ahead all after vs n ws) where
-      head_reads : Reads sym.Call (t ∷ us) (n ∷ ws) (one x)
-      head_reads = subst (λ os. Reads sym.Call (t ∷ us) os (one x)) b.first s.reads
+    pub rule_took : (zs : List Token) (b : Bool) (gs : List FormGoal) → TookTail vs zs b gs → TookClause ts zs (Rule t.line x b gs)
+    rule_took zs b gs r = record {
+      reads = subst (λ os. ReadsClause os zs (Rule t.line x b gs)) (sym a.first) (r.reads t us x s.reads);
+      runs = to_tail ∙ r.runs;
+    }
 
-      pub tail_wrong : (n.kind ≡ kind.Dot → ⊥) → (n.kind ≡ kind.Neck → ⊥) → NoClause ts (Wrong (all - after))
-      tail_wrong p q = to_tail ∙ ap (run (ClauseTail ∷ Clauses ∷ []) (0 ∷ [])) b.first ∙ refused (ClauseTail ∷ Clauses ∷ []) (0 ∷ []) n ws (neither n.kind p q) ∙ ap out.Wrong (left_is all after vs ws n b)
-        where
-          neither : (j : Kind) → (j ≡ kind.Dot → ⊥) → (j ≡ kind.Neck → ⊥) → step (ClauseTail ∷ Clauses ∷ []) j ≡ None
-          neither kind.Dot p q = absurd (p refl)
-          neither kind.Neck p q = absurd (q refl)
-          neither _ p q = refl
+-- what follows a head
+pub tail_ended : (vs : List Token) → vs ≡ [] → NoTail vs Ended
+tail_ended vs e = ap (run (ClauseTail ∷ Clauses ∷ []) (0 ∷ [])) e
 
-      pub fact_took : n.kind ≡ kind.Dot → (gs : List FormGoal) → gs ≡ [] → TookClause ts ws (Rule t.line x false gs)
-      fact_took k gs e = subst (λ hs. TookClause ts ws (Rule t.line x false hs)) (sym e) (record {
-        reads = subst (λ os. ReadsClause os ws (Rule t.line x false [])) (sym a.first) (fact n head_reads k refl);
-        runs = to_tail ∙ ap (run (ClauseTail ∷ Clauses ∷ []) (0 ∷ [])) b.first ∙ taken (ClauseTail ∷ Clauses ∷ []) (Clauses ∷ []) (0 ∷ []) (0 ∷ []) kind.Dot n ws k refl refl (omega arith);
-      })
+module _ (all after : ℕ) (vs : List Token) (n : Token) (ws : List Token) (b : Ahead all after vs n ws) where
+  pub tail_wrong : (n.kind ≡ kind.Dot → ⊥) → (n.kind ≡ kind.Neck → ⊥) → NoTail vs (Wrong (all - after))
+  tail_wrong p q = ap (run (ClauseTail ∷ Clauses ∷ []) (0 ∷ [])) b.first ∙ refused (ClauseTail ∷ Clauses ∷ []) (0 ∷ []) n ws (neither n.kind p q) ∙ ap out.Wrong (left_is all after vs ws n b)
+    where
+      neither : (j : Kind) → (j ≡ kind.Dot → ⊥) → (j ≡ kind.Neck → ⊥) → step (ClauseTail ∷ Clauses ∷ []) j ≡ None
+      neither kind.Dot p q = absurd (p refl)
+      neither kind.Neck p q = absurd (q refl)
+      neither _ p q = refl
 
-      module _ (k : n.kind ≡ kind.Neck) where
-        to_body : run (Clauses ∷ []) (0 ∷ []) ts ≡ run (Goal ∷ MoreGoals ∷ Clauses ∷ []) (0 ∷ []) ws
-        to_body = to_tail ∙ ap (run (ClauseTail ∷ Clauses ∷ []) (0 ∷ [])) b.first ∙ taken (ClauseTail ∷ Clauses ∷ []) (Goal ∷ MoreGoals ∷ Clauses ∷ []) (0 ∷ []) (0 ∷ []) kind.Neck n ws k refl refl (omega arith)
+  head_reads : (t : Token) (os : List Token) (x : Form) → Reads sym.Call (t ∷ os) vs (one x) → Reads sym.Call (t ∷ os) (n ∷ ws) (one x)
+  head_reads t os x h = subst (λ us. Reads sym.Call (t ∷ os) us (one x)) b.first h
 
-        pub body_stops : (e : Stop) → NoGoals ws e → NoClause ts e
-        body_stops e r = agrees e _ _ to_body (r (Clauses ∷ []))
+  pub dot_took : n.kind ≡ kind.Dot → (gs : List FormGoal) → gs ≡ [] → TookTail vs ws false gs
+  dot_took k gs e = subst (TookTail vs ws false) (sym e) (record {
+    reads = λ t os x h. fact n (head_reads t os x h) k refl;
+    runs = ap (run (ClauseTail ∷ Clauses ∷ []) (0 ∷ [])) b.first ∙ taken (ClauseTail ∷ Clauses ∷ []) (Clauses ∷ []) (0 ∷ []) (0 ∷ []) kind.Dot n ws k refl refl (omega arith);
+  })
 
-        pub rule_took : (zs : List Token) (gs : List FormGoal) → TookGoals ws zs gs → TookClause ts zs (Rule t.line x true gs)
-        rule_took zs gs r = record {
-          reads = subst (λ os. ReadsClause os zs (Rule t.line x true gs)) (sym a.first) (rule n ws head_reads k r.reads refl);
-          runs = to_body ∙ r.runs (Clauses ∷ []);
-        }
+  module _ (k : n.kind ≡ kind.Neck) where
+    to_body : run (ClauseTail ∷ Clauses ∷ []) (0 ∷ []) vs ≡ run (Goal ∷ MoreGoals ∷ Clauses ∷ []) (0 ∷ []) ws
+    to_body = ap (run (ClauseTail ∷ Clauses ∷ []) (0 ∷ [])) b.first ∙ taken (ClauseTail ∷ Clauses ∷ []) (Goal ∷ MoreGoals ∷ Clauses ∷ []) (0 ∷ []) (0 ∷ []) kind.Neck n ws k refl refl (omega arith)
+
+    pub body_stops : (e : Stop) → NoGoals ws e → NoTail vs e
+    body_stops e r = agrees e _ _ to_body (r (Clauses ∷ []))
+
+    pub body_took : (zs : List Token) (gs : List FormGoal) → TookGoals ws zs gs → TookTail vs zs true gs
+    body_took zs gs r = record {
+      reads = λ t os x h. rule n ws (head_reads t os x h) k r.reads refl;
+      runs = to_body ∙ r.runs (Clauses ∷ []);
+    }
 
 pub clause_wrong : (all at : ℕ) (ts us : List Token) (t : Token) → Ahead all at ts t us → (t.kind ≡ kind.Neck → ⊥) → (t.kind ≡ kind.Atom → ⊥) → (t.kind ≡ kind.Quoted → ⊥) → NoClause ts (Wrong (all - at))
 clause_wrong all at ts us t a p q r = ap (run (Clauses ∷ []) (0 ∷ [])) a.first ∙ refused (Clauses ∷ []) (0 ∷ []) t us (none t.kind p q r) ∙ ap out.Wrong (left_is all at ts us t a)

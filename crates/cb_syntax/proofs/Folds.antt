@@ -1,10 +1,10 @@
 -- The forms of written terms, by their constructors.
 use Rattle.std.specs.Prelude.{MatchResult}
-use Rattle.std.proofs.Common.{◌≡◌, Bor, ℕ, List, [], ◌∷◌, ◌++◌, ◌∙◌, map, Some, None, Result, Ok, Err, sym, refl, ap}
+use Rattle.std.proofs.Common.{◌≡◌, Bor, ℕ, List, [], ◌∷◌, ◌++◌, ◌∙◌, map, Some, None, Result, Ok, Err, refl, ap}
 use Rattle.std.proofs.lemmas.List.{map-append}
 use Rattle.cb_model.specs.declared.RawTerm.{RawTerm}
 use Rattle.cb_model.specs.declared.RawTerm.TheVariants as raw
-use Rattle.cb_model.specs.Grammar.{Op, Plus, Hash, Star, Form, Variable, Integer, Name, Closed, Open, Not, And, Xor, Or, Last, chain}
+use Rattle.cb_model.specs.Grammar.{Op, Plus, Hash, Star, Form, Name, Closed, Open, Not, Last, chain}
 use Rattle.cb_model.specs.Forms.{form_of, forms_of}
 use Rattle.cb_laws.proofs.FormValues.{form_not, form_closed, form_open, form_name}
 use Rattle.cb_syntax.specs.Steps.{joined_form}

@@ -4,8 +4,8 @@ use Rattle.cb_model.specs.declared.Kind.{Kind}
 use Rattle.cb_model.specs.declared.Kind.TheVariants as kind
 use Rattle.cb_model.specs.Tokens.{Token}
 use Rattle.cb_model.specs.Grammar as sym
-use Rattle.cb_model.specs.Grammar.{Op, Plus, Hash, Star, Form, Forms, one, IsAtom, Reads, FormGoal, ReadsGoal, ReadsGoals, FormClause, ReadsClause, FormQuery, ReadsQuery}
-use Rattle.cb_syntax.specs.Machine.{Item, Chain, Operands, Equals, Goal, MoreGoals, Clauses, Queries, run}
+use Rattle.cb_model.specs.Grammar.{Op, Plus, Hash, Star, Form, Forms, one, IsAtom, Reads, FormGoal, AnEqual, ReadsGoal, ReadsGoals, FormClause, Rule, ReadsClause, FormQuery, ReadsQuery}
+use Rattle.cb_syntax.specs.Machine.{Item, Chain, Operands, Equals, Goal, MoreGoals, ClauseTail, Clauses, Queries, run}
 use Rattle.cb_syntax.specs.Answers.{Agrees}
 use Rattle.cb_syntax.specs.declared.read.Stop.{Stop}
 
@@ -38,6 +38,10 @@ pub record TookEquation (x : Form) (ts us : List Token) (g : FormGoal) : Type 0 
   pub reads : (os : List Token) → Reads (sym.Chain Plus) os ts (one x) → ReadsGoal os us g
   pub runs : (is : List Item) → run (Equals ∷ Chain Plus ∷ is) (0 ∷ []) ts ≡ run is (0 ∷ []) us
 
+-- the same behind any term
+abbrev pub TookRight : List Token → List Token → Form → Type 0
+TookRight ts us y = (x : Form) → TookEquation x ts us (AnEqual x y)
+
 abbrev pub NoEquation : List Token → Stop → Type 0
 NoEquation ts e = (is : List Item) → Agrees e (run (Equals ∷ Chain Plus ∷ is) (0 ∷ []) ts)
 
@@ -56,6 +60,14 @@ pub record TookGoals (ts us : List Token) (gs : List FormGoal) : Type 0 where
 
 abbrev pub NoGoals : List Token → Stop → Type 0
 NoGoals ts e = (is : List Item) → Agrees e (run (Goal ∷ MoreGoals ∷ is) (0 ∷ []) ts)
+
+-- what follows a head was read
+pub record TookTail (ts us : List Token) (bodied : Bool) (gs : List FormGoal) : Type 0 where
+  pub reads : (t : Token) (os : List Token) (x : Form) → Reads sym.Call (t ∷ os) ts (one x) → ReadsClause (t ∷ os) us (Rule t.line x bodied gs)
+  pub runs : run (ClauseTail ∷ Clauses ∷ []) (0 ∷ []) ts ≡ run (Clauses ∷ []) (0 ∷ []) us
+
+abbrev pub NoTail : List Token → Stop → Type 0
+NoTail ts e = Agrees e (run (ClauseTail ∷ Clauses ∷ []) (0 ∷ []) ts)
 
 -- a clause was read
 pub record TookClause (ts us : List Token) (c : FormClause) : Type 0 where

@@ -4,7 +4,7 @@ use Rattle.cb_model.specs.declared.Kind.{Kind}
 use Rattle.cb_model.specs.declared.Kind.TheVariants as kind
 use Rattle.cb_model.specs.Tokens.{Token}
 use Rattle.cb_model.specs.Grammar as sym
-use Rattle.cb_model.specs.Grammar.{Op, Plus, Hash, Star, op_kind, tighter, Form, Forms, And, Xor, Or, one, depth, nest, IsAtom, Reads, FormGoal, ReadsGoal, ReadsGoals, FormClause, ReadsClause}
+use Rattle.cb_model.specs.Grammar.{Op, Plus, Hash, Star, op_kind, tighter, Form, Forms, And, Xor, Or, one, chain, depth, nest, IsAtom, Reads, FormGoal, ReadsGoal, ReadsGoals, FormClause, ReadsClause}
 use Rattle.cb_lex.specs.declared.Token as declared
 use Rattle.cb_lex.specs.View.{tokens_of}
 use Rattle.cb_syntax.specs.Machine.{Item, Chain, Operands, Operand, Args, Commas, ListRest, ListEnd, run, step, can_end}
@@ -102,6 +102,12 @@ NoListEnd d ts e = (is : List Item) (n : ℕ) (ns : List ℕ) → depth (0 ∷ n
 pub record TookOperands (op : Op) (d : ℕ) (ts us : List Token) (xs : Forms) : Type 0 where
   pub reads : Reads (sym.Operands op) ts us xs
   pub runs : (is : List Item) (ns : List ℕ) → depth (0 ∷ ns) ≡ d → run (Operands op ∷ is) (0 ∷ ns) ts ≡ run is (0 ∷ ns) us
+
+-- a chain was read behind its first operand
+pub record TookLonger (op : Op) (d : ℕ) (x : Form) (ts us : List Token) (y : Form) : Type 0 where
+  pub others : Forms
+  pub took : TookOperands op d ts us others
+  pub is : y ≡ chain op x others
 
 -- no token of this kind comes first
 abbrev pub NoKind : Kind → List Token → Type 0

@@ -8,6 +8,3 @@ mod texts;
 mod token_list;
 
 pub use texts::{ReadError, read_clauses, read_queries};
-
-#[cfg(test)]
-mod tests;

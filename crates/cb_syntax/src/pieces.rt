@@ -7,10 +7,10 @@ ghost use Rattle.cb_model.specs.Grammar.{IsAtom, ReadsClause, ReadsQuery};
 ghost use Rattle.cb_lex.specs.View.{token_of};
 ghost use Rattle.cb_syntax.specs.Answers.{IsText, NoText};
 ghost use Rattle.cb_syntax.specs.Steps.{rest, Ahead};
-ghost use Rattle.cb_syntax.specs.Pieces.{tail_next, TookRest, NoRest, TookEquation, NoEquation, TookGoal, NoGoal, TookGoals, NoGoals, TookClause, NoClause, TookQuery, NoQuery};
+ghost use Rattle.cb_syntax.specs.Pieces.{tail_next, TookRest, NoRest, TookRight, TookEquation, NoEquation, TookGoal, NoGoal, TookGoals, NoGoals, TookTail, NoTail, TookClause, NoClause, TookQuery, NoQuery};
 ghost use Rattle.cb_syntax.specs.declared.read.Stop.TheVariants as stop;
 
-use crate::read::{Operator, Stop, call, chain, chained, expect, operands, peek, push, terms};
+use crate::read::{Operator, Stop, call, chain, expect, longer, peek, push, terms};
 use cb_lex::Token;
 use cb_model::{Kind, RawClause, RawGoal, RawQuery, RawTerm};
 use sqlite_items::Items;
@@ -39,13 +39,22 @@ fn chain_behind<'s>(
     ensures answer { MatchResult result (λ r. TookRest (form_of first.entry) (rest tokens.now at) (rest tokens.now r.1) (form_of r.0)) (λ e. NoRest (rest tokens.now at) e) }
     ensures forward { IfOk result (λ r. at ≤ r.1) }
 {
-    let (factors, after) = operands(alloc, Operator::Star, tokens, at, 0)?;
-    let product = chained(alloc, Operator::Star, first, factors)?;
-    let (parts, later) = operands(alloc, Operator::Hash, tokens, after, 0)?;
-    let sum = chained(alloc, Operator::Hash, product, parts)?;
-    let (others, behind) = operands(alloc, Operator::Plus, tokens, later, 0)?;
-    let term = chained(alloc, Operator::Plus, sum, others)?;
-    Ok((term, behind))
+    let (product, after) = longer(alloc, Operator::Star, first, tokens, at, 0)?;
+    let (sum, later) = longer(alloc, Operator::Hash, product, tokens, after, 0)?;
+    longer(alloc, Operator::Plus, sum, tokens, later, 0)
+}
+
+/// `=` and a term behind it.
+fn right_side<'s>(
+    alloc: Global,
+    tokens: &[Token<'s>],
+    at: usize,
+) -> Result<(RawTerm<'s>, usize), Stop>
+    ensures answer { MatchResult result (λ r. TookRight (rest tokens.now at) (rest tokens.now r.1) (form_of r.0)) (λ e. NoEquation (rest tokens.now at) e) }
+    ensures forward { IfOk result (λ r. at < r.1) }
+{
+    let after = expect(Kind::Equals, tokens, at)?;
+    chain(alloc, Operator::Plus, tokens, after, 0)
 }
 
 /// `=` and a term behind a term.
@@ -58,9 +67,13 @@ fn equation<'s>(
     ensures answer { MatchResult result (λ r. TookEquation (form_of left.entry) (rest tokens.now at) (rest tokens.now r.1) (goal_form r.0)) (λ e. NoEquation (rest tokens.now at) e) }
     ensures forward { IfOk result (λ r. at < r.1) }
 {
-    let after = expect(Kind::Equals, tokens, at)?;
-    let (right, behind) = chain(alloc, Operator::Plus, tokens, after, 0)?;
-    Ok((RawGoal::Equal(left, right), behind))
+    match right_side(alloc, tokens, at) {
+        Ok((right, behind)) => Ok((RawGoal::Equal(left, right), behind)),
+        Err(stop) => {
+            drop(left);
+            Err(stop)
+        }
+    }
 }
 
 /// A goal: a call, or two terms with `=` between them.
@@ -110,10 +123,30 @@ fn goals<'s>(
     ensures forward { IfOk result (λ r. at < r.1) }
 {
     let mut found = Items::new(alloc);
+    match more_goals(alloc, tokens, at, &mut found) {
+        Ok(behind) => Ok((found, behind)),
+        Err(stop) => {
+            drop(found);
+            Err(stop)
+        }
+    }
+}
+
+/// Puts goals with commas between them, up to a dot, into an empty list, and gives the place behind the dot.
+fn more_goals<'s>(
+    alloc: Global,
+    tokens: &[Token<'s>],
+    at: usize,
+    found: &mut Items<RawGoal<'s>>,
+) -> Result<usize, Stop>
+    requires { found.old ≡ [] }
+    ensures answer { MatchResult result (λ r. TookGoals (rest tokens.now at) (rest tokens.now r) (map goal_form found.new)) (λ e. NoGoals (rest tokens.now at) e) }
+    ensures forward { IfOk result (λ r. at < r) }
+{
     let mut left = at;
     loop {
         let (goal, after) = goal(alloc, tokens, left)?;
-        push(&mut found, goal)?;
+        push(found, goal)?;
         let Some(next) = peek(tokens, after) else {
             return Err(Stop::Ended);
         };
@@ -122,7 +155,7 @@ fn goals<'s>(
                 left = after + 1;
             }
             Kind::Dot => {
-                return Ok((found, after + 1));
+                return Ok(after + 1);
             }
             _ => {
                 return Err(Stop::Wrong(tokens.len() - after));
@@ -151,15 +184,20 @@ fn directive<'s>(
         return Err(Stop::Wrong(tokens.len() - place));
     }
     let (args, after) = terms(alloc, tokens, place + 1, 0)?;
-    let behind = expect(Kind::Dot, tokens, after)?;
-    Ok((
-        RawClause::Directive {
-            line: first.line,
-            word: word.name(),
-            args,
-        },
-        behind,
-    ))
+    match expect(Kind::Dot, tokens, after) {
+        Ok(behind) => Ok((
+            RawClause::Directive {
+                line: first.line,
+                word: word.name(),
+                args,
+            },
+            behind,
+        )),
+        Err(stop) => {
+            drop(args);
+            Err(stop)
+        }
+    }
 }
 
 /// Whether a token of this kind is an atom.
@@ -185,32 +223,42 @@ fn rule<'s>(
     ensures forward { IfOk result (λ r. at < r.1) }
 {
     let (head, after) = call(alloc, first, tokens, at + 1, 0)?;
-    let Some(next) = peek(tokens, after) else {
-        return Err(Stop::Ended);
-    };
-    match next.kind {
-        Kind::Dot => Ok((
+    match tail(alloc, tokens, after) {
+        Ok((bodied, body, behind)) => Ok((
             RawClause::Rule {
                 line: first.line,
                 head,
-                bodied: false,
-                body: Items::new(alloc),
+                bodied,
+                body,
             },
-            after + 1,
+            behind,
         )),
-        Kind::Neck => {
-            let (body, behind) = goals(alloc, tokens, after + 1)?;
-            Ok((
-                RawClause::Rule {
-                    line: first.line,
-                    head,
-                    bodied: true,
-                    body,
-                },
-                behind,
-            ))
+        Err(stop) => {
+            drop(head);
+            Err(stop)
         }
-        _ => Err(Stop::Wrong(tokens.len() - after)),
+    }
+}
+
+/// What follows a head: a dot, or a body. The first part says which.
+fn tail<'s>(
+    alloc: Global,
+    tokens: &[Token<'s>],
+    at: usize,
+) -> Result<(bool, Items<RawGoal<'s>>, usize), Stop>
+    ensures answer { MatchResult result (λ r. TookTail (rest tokens.now at) (rest tokens.now r.2) r.0 (map goal_form r.1)) (λ e. NoTail (rest tokens.now at) e) }
+    ensures forward { IfOk result (λ r. at < r.2) }
+{
+    let Some(next) = peek(tokens, at) else {
+        return Err(Stop::Ended);
+    };
+    match next.kind {
+        Kind::Dot => Ok((false, Items::new(alloc), at + 1)),
+        Kind::Neck => {
+            let (body, behind) = goals(alloc, tokens, at + 1)?;
+            Ok((true, body, behind))
+        }
+        _ => Err(Stop::Wrong(tokens.len() - at)),
     }
 }
 
@@ -263,18 +311,54 @@ fn append<T: Drop>(items: &mut Vec<T>, item: T) -> Result<(), Stop>
     }
 }
 
+/// Puts the clauses that these tokens are into an empty list.
+fn more_clauses<'s>(
+    alloc: Global,
+    tokens: &[Token<'s>],
+    found: &mut Vec<RawClause<'s>>,
+) -> Result<(), Stop>
+    requires { found.old.items ≡ [] }
+    ensures { MatchResult result (λ x. IsText ReadsClause (rest tokens.now 0) (map clause_form found.new.items)) (λ e. NoText ReadsClause (rest tokens.now 0) e) }
+{
+    let mut left = 0;
+    while let Some(first) = peek(tokens, left) {
+        let (clause, after) = clause(alloc, first, tokens, left)?;
+        append(found, clause)?;
+        left = after;
+    }
+    Ok(())
+}
+
 /// The clauses that these tokens are.
 pub fn clauses<'s>(alloc: Global, tokens: &[Token<'s>]) -> Result<Vec<RawClause<'s>>, Stop>
     ensures { MatchResult result (λ v. IsText ReadsClause (rest tokens.now 0) (map clause_form v.items)) (λ e. NoText ReadsClause (rest tokens.now 0) e) }
 {
     let mut found = Vec::new(alloc);
+    match more_clauses(alloc, tokens, &mut found) {
+        Ok(()) => Ok(found),
+        Err(stop) => {
+            drop(found);
+            Err(stop)
+        }
+    }
+}
+
+/// Puts the queries that these tokens are into an empty list.
+fn more_queries<'s>(
+    alloc: Global,
+    tokens: &[Token<'s>],
+    found: &mut Vec<RawQuery<'s>>,
+) -> Result<(), Stop>
+    requires { found.old.items ≡ [] }
+    ensures { MatchResult result (λ x. IsText ReadsQuery (rest tokens.now 0) (map query_form found.new.items)) (λ e. NoText ReadsQuery (rest tokens.now 0) e) }
+{
     let mut left = 0;
     while let Some(first) = peek(tokens, left) {
-        let (clause, after) = clause(alloc, first, tokens, left)?;
-        append(&mut found, clause)?;
+        let (query, after) = query(alloc, first, tokens, left)?;
+        append(found, query)?;
         left = after;
     }
-    Ok(found)
+    Ok(())
 }
 
 /// The queries that these tokens are.
@@ -282,11 +366,11 @@ pub fn queries<'s>(alloc: Global, tokens: &[Token<'s>]) -> Result<Vec<RawQuery<'
     ensures { MatchResult result (λ v. IsText ReadsQuery (rest tokens.now 0) (map query_form v.items)) (λ e. NoText ReadsQuery (rest tokens.now 0) e) }
 {
     let mut found = Vec::new(alloc);
-    let mut left = 0;
-    while let Some(first) = peek(tokens, left) {
-        let (query, after) = query(alloc, first, tokens, left)?;
-        append(&mut found, query)?;
-        left = after;
+    match more_queries(alloc, tokens, &mut found) {
+        Ok(()) => Ok(found),
+        Err(stop) => {
+            drop(found);
+            Err(stop)
+        }
     }
-    Ok(found)
 }

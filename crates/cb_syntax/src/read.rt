@@ -6,7 +6,7 @@ ghost use Rattle.cb_model.specs.Grammar.{IsAtom, op_kind, Plus as plus, chain as
 ghost use Rattle.cb_model.specs.Tokens.{name_of};
 ghost use Rattle.cb_lex.specs.View.{token_of};
 ghost use Rattle.cb_syntax.specs.Machine.{Chain as ChainItem, Operands as OperandsItem};
-ghost use Rattle.cb_syntax.specs.Steps.{rest, op_of, inner, Stops, TookChain, TookInner, TookOperand, NoOperand, TookCall, NoCall, TookTerms, NoTerms, TookList, NoList, TookListEnd, NoListEnd, TookOperands, NoKind, Ahead, AheadOf, NotAhead, joined_form};
+ghost use Rattle.cb_syntax.specs.Steps.{rest, op_of, inner, Stops, TookChain, TookInner, TookOperand, NoOperand, TookCall, NoCall, TookTerms, NoTerms, TookList, NoList, TookListEnd, NoListEnd, TookOperands, TookLonger, NoKind, Ahead, AheadOf, NotAhead, joined_form};
 ghost use Rattle.cb_syntax.specs.declared.read.Stop.TheVariants as stop;
 
 use cb_lex::Token;
@@ -18,7 +18,7 @@ use std::alloc::Global;
 pub const LIMIT: u32 = 256;
 
 /// Why no text was read. A number counts the tokens from the bad one on.
-#[derive(Clone, Copy, PartialEq, Eq, Debug)]
+#[derive(Clone, Copy)]
 pub enum Stop {
     Memory,
     Ended,
@@ -113,8 +113,13 @@ pub fn operand<'s>(
                 return Err(Stop::Deep(tokens.len() - at));
             }
             let (group, after) = chain(alloc, Operator::Plus, tokens, at + 1, depth + 1)?;
-            let behind = expect(Kind::RightParen, tokens, after)?;
-            Ok((group, behind))
+            match expect(Kind::RightParen, tokens, after) {
+                Ok(behind) => Ok((group, behind)),
+                Err(stop) => {
+                    drop(group);
+                    Err(stop)
+                }
+            }
         }
         Kind::LeftBracket => {
             if depth == LIMIT {
@@ -148,8 +153,13 @@ pub fn call<'s>(
         return Err(Stop::Deep(tokens.len() - at));
     }
     let (arguments, after) = terms(alloc, tokens, at + 1, depth + 1)?;
-    let behind = expect(Kind::RightParen, tokens, after)?;
-    Ok((RawTerm::Name(atom.name(), arguments), behind))
+    match expect(Kind::RightParen, tokens, after) {
+        Ok(behind) => Ok((RawTerm::Name(atom.name(), arguments), behind)),
+        Err(stop) => {
+            drop(arguments);
+            Err(stop)
+        }
+    }
 }
 
 /// Terms with commas between them.
@@ -165,12 +175,35 @@ pub fn terms<'s>(
     ensures forward { IfOk result (λ r. at < r.1) }
 {
     let mut found = Items::new(alloc);
+    match more_terms(alloc, tokens, at, depth, &mut found) {
+        Ok(after) => Ok((found, after)),
+        Err(stop) => {
+            drop(found);
+            Err(stop)
+        }
+    }
+}
+
+/// Puts terms with commas between them into an empty list, and gives the place behind them.
+#[cycle(reader)]
+fn more_terms<'s>(
+    alloc: Global,
+    tokens: &[Token<'s>],
+    at: usize,
+    depth: u32,
+    found: &mut Items<RawTerm<'s>>,
+) -> Result<usize, Stop>
+    requires limit { depth ≤ 256 }
+    requires empty { found.old ≡ [] }
+    ensures answer { MatchResult result (λ r. TookTerms depth (rest tokens.now at) (rest tokens.now r) (forms_of (map form_of found.new))) (λ e. NoTerms depth (rest tokens.now at) e) }
+    ensures forward { IfOk result (λ r. at < r) }
+{
     let mut left = at;
     loop {
         let (term, after) = chain(alloc, Operator::Plus, tokens, left, depth)?;
-        push(&mut found, term)?;
+        push(found, term)?;
         if !stands(Kind::Comma, tokens, after) {
-            return Ok((found, after));
+            return Ok(after);
         }
         left = after + 1;
     }
@@ -236,7 +269,30 @@ pub fn chain<'s>(
     ensures forward { IfOk result (λ r. at < r.1) }
 {
     let (first, after) = tighter(alloc, op, tokens, at, depth)?;
-    let (others, behind) = operands(alloc, op, tokens, after, depth)?;
+    longer(alloc, op, first, tokens, after, depth)
+}
+
+/// A chain of this operator behind its first operand.
+#[cycle(reader)]
+pub fn longer<'s>(
+    alloc: Global,
+    op: Operator,
+    first: RawTerm<'s>,
+    tokens: &[Token<'s>],
+    at: usize,
+    depth: u32,
+) -> Result<(RawTerm<'s>, usize), Stop>
+    requires { depth ≤ 256 }
+    ensures answer { MatchResult result (λ r. TookLonger (op_of op) depth (form_of first.entry) (rest tokens.now at) (rest tokens.now r.1) (form_of r.0)) (λ e. Stops (OperandsItem (op_of op)) depth (rest tokens.now at) e) }
+    ensures forward { IfOk result (λ r. at ≤ r.1) }
+{
+    let (others, behind) = match operands(alloc, op, tokens, at, depth) {
+        Ok(found) => found,
+        Err(stop) => {
+            drop(first);
+            return Err(stop);
+        }
+    };
     let term = chained(alloc, op, first, others)?;
     Ok((term, behind))
 }
@@ -263,7 +319,7 @@ fn tighter<'s>(
 
 /// The operands behind the first.
 #[cycle(reader)]
-pub fn operands<'s>(
+fn operands<'s>(
     alloc: Global,
     op: Operator,
     tokens: &[Token<'s>],
@@ -275,17 +331,41 @@ pub fn operands<'s>(
     ensures forward { IfOk result (λ r. at ≤ r.1) }
 {
     let mut found = Items::new(alloc);
+    match more_operands(alloc, op, tokens, at, depth, &mut found) {
+        Ok(behind) => Ok((found, behind)),
+        Err(stop) => {
+            drop(found);
+            Err(stop)
+        }
+    }
+}
+
+/// Puts the operands behind the first into an empty list, and gives the place behind them.
+#[cycle(reader)]
+fn more_operands<'s>(
+    alloc: Global,
+    op: Operator,
+    tokens: &[Token<'s>],
+    at: usize,
+    depth: u32,
+    found: &mut Items<RawTerm<'s>>,
+) -> Result<usize, Stop>
+    requires limit { depth ≤ 256 }
+    requires empty { found.old ≡ [] }
+    ensures answer { MatchResult result (λ r. TookOperands (op_of op) depth (rest tokens.now at) (rest tokens.now r) (forms_of (map form_of found.new))) (λ e. Stops (OperandsItem (op_of op)) depth (rest tokens.now at) e) }
+    ensures forward { IfOk result (λ r. at ≤ r) }
+{
     let mut left = at;
     while stands(op.kind(), tokens, left) {
         let (term, after) = tighter(alloc, op, tokens, left + 1, depth)?;
-        push(&mut found, term)?;
+        push(found, term)?;
         left = after;
     }
-    Ok((found, left))
+    Ok(left)
 }
 
 /// A chain of these operands.
-pub fn chained<'s>(
+fn chained<'s>(
     alloc: Global,
     op: Operator,
     first: RawTerm<'s>,

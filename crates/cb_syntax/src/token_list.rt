@@ -7,16 +7,13 @@ ghost use Rattle.cb_syntax.specs.TokenList.{HasFault, IsWithin};
 
 use cb_lex::{LexError, Lexer, Token};
 use std::alloc::Global;
-use thiserror::Error;
 
 /// Why a text has no list of tokens.
-#[derive(Clone, Copy, PartialEq, Eq, Debug, Error)]
+#[derive(Clone, Copy)]
 pub enum TokensError {
     /// The first fault of the text.
-    #[error(transparent)]
     Lex(LexError),
     /// There is no memory for the tokens.
-    #[error("out of memory")]
     Memory,
 }
 

@@ -6,7 +6,6 @@ ghost use Rattle.cb_model.specs.Grammar.{Name};
 ghost use Rattle.cb_model.specs.Written.{is_name, is_written, are_written, goal_written};
 ghost use Rattle.cb_model.specs.Forms.{form_of, forms_of, goal_form};
 ghost use Rattle.cb_model.specs.Sorts.{apart, apart_all, apart_goal};
-ghost use Rattle.cb_model.specs.Directives.{same_sign};
 ghost use Rattle.cb_model.specs.Loading.{first_atom as atom_first, call_goal, circuit_goal};
 ghost use Rattle.cb_known.specs.Modules.{AreNumbers};
 ghost use Rattle.cb_trees.specs.Places.{goal_at};
@@ -15,7 +14,7 @@ ghost use Rattle.cb_trees.specs.Numbered.{numbering_of};
 use crate::numbers::Numbers;
 use crate::skipped::skip;
 use crate::trees::{Places, tree, trees};
-use cb_directives::named;
+use cb_directives::{is_circuit, is_fail, is_true, named};
 use cb_known::first_atom;
 use cb_model::{Goal, RawGoal, RawTerm, Sort};
 use std::alloc::{AllocError, Global};
@@ -49,13 +48,6 @@ fn circuit<'s>(
     Ok(Goal::Circuit(module, inputs, outputs))
 }
 
-/// Whether a name is this one.
-fn is(wanted: &[u8], arguments: usize, name: &[u8], count: usize) -> bool
-    ensures { result ≡ same_sign (name.now, count) (wanted.now, arguments) }
-{
-    name == wanted && count == arguments
-}
-
 /// A call of a name with its arguments.
 fn call<'s>(
     alloc: Global,
@@ -68,13 +60,13 @@ fn call<'s>(
     ensures goal { IfOk result (λ g. (ms : List (Option Text)) → AreNumbers ms numbers.now.modules.now → g ≡ call_goal numbers.now.declared.now (numbering_of numbers.now) ms (Name name.now (apart_all (forms_of (map form_of args.now)) own.old).0)) }
     ensures own { OnOk result (own.new ≡ (apart_all (forms_of (map form_of args.now)) own.old).1) }
 {
-    if is(b"true", 0, name, args.len()) {
+    if is_true(name, args.len()) {
         return Ok(Goal::True);
     }
-    if is(b"fail", 0, name, args.len()) {
+    if is_fail(name, args.len()) {
         return Ok(Goal::Fail);
     }
-    if is(b"circuit", 3, name, args.len()) {
+    if is_circuit(name, args.len()) {
         return circuit(alloc, numbers, args, own);
     }
     let places = Places::of(numbers.declared, name, args.len());

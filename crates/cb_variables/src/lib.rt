@@ -109,28 +109,3 @@ impl<'s> Variables<'s> {
         Ok(number)
     }
 }
-
-#[cfg(test)]
-mod tests {
-    use super::*;
-    use std::test::Fail;
-
-    #[test]
-    fn numbers_by_first_appearance(rt: HostRuntime) -> Result<(), Fail> {
-        let mut variables = Variables::new(rt.alloc());
-        let (x, none) = Variable::written(b"X", 0)?;
-        let (first, one) = Variable::written(b"_", none)?;
-        let (second, two) = Variable::written(b"_", one)?;
-        assert_eq!(rt; two, 2);
-        assert_eq!(rt; variables.add(x)?, 0);
-        assert_eq!(rt; variables.add(first)?, 1);
-        assert_eq!(rt; variables.add(second)?, 2);
-        assert_eq!(rt; variables.add(x)?, 0);
-        assert_eq!(rt; variables.number(second), Some(2));
-        assert_eq!(rt; variables.number(Variable::Named(b"Y")), None);
-        assert_eq!(rt; variables.len(), 3);
-        assert_eq!(rt; variables.name(0), Some(b"X".as_slice()));
-        assert_eq!(rt; variables.name(1), None);
-        Ok(())
-    }
-}

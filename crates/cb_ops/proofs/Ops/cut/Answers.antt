@@ -14,4 +14,8 @@ invariant_of-self c =
           (IsMemo-cut c.self.inside.memo c.self.inside.bound c.self.inside.dd.triples c.args.to (subst IsDiagram c.cut.ensures.triples c.cut.ensures.diagram) kept c.self.invariant.0),
       subst (IsPairs c.self.inside.pairs c.self.inside.bound) (sym c.cut.ensures.triples)
           (IsPairs-cut c.self.inside.pairs c.self.inside.bound c.self.inside.dd.triples c.args.to kept c.self.invariant.1),
+      subst (IsMemo c.self.inside.old_memo c.self.inside.bound) (sym c.cut.ensures.triples)
+          (IsMemo-cut c.self.inside.old_memo c.self.inside.bound c.self.inside.dd.triples c.args.to (subst IsDiagram c.cut.ensures.triples c.cut.ensures.diagram) kept c.self.invariant.2),
+      subst (IsPairs c.self.inside.old_pairs c.self.inside.bound) (sym c.cut.ensures.triples)
+          (IsPairs-cut c.self.inside.old_pairs c.self.inside.bound c.self.inside.dd.triples c.args.to kept c.self.invariant.3),
     )

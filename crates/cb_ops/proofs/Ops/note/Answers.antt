@@ -1,4 +1,4 @@
-use Rattle.std.proofs.Common.{◌≡◌, ℕ, ◌+◌, ◌<◌, ◌≤◌, arith, ap, sym, subst, ◌∙◌, length}
+use Rattle.std.proofs.Common.{refl, ◌≡◌, ℕ, ◌+◌, ◌<◌, ◌≤◌, arith, ap, sym, subst, ◌∙◌, length}
 use Rattle.cb_dd.specs.Diagram.{Store}
 use Rattle.cb_ops.specs.declared.Call.{Call}
 use Rattle.cb_ops.specs.Call.{IsAnswer}
@@ -38,6 +38,8 @@ invariant_of-self c =
           (λ u. IsMemo-insert c.self.inside.memo c.insert.new.self c.self.inside.bound c.max-self-inside.result c.self.inside.dd.triples c.self.invariant.0 wide room c.in-Some.call c.in-Ok.answer kept u.0)
           (λ u. IsMemo-same c.self.inside.memo c.insert.new.self c.self.inside.bound c.max-self-inside.result c.self.inside.dd.triples c.self.invariant.0 wide room u),
       IsPairs-wide c.self.inside.pairs c.self.inside.bound c.max-self-inside.result c.self.inside.dd.triples wide c.self.invariant.1,
+      IsMemo-same c.self.inside.old_memo c.self.inside.old_memo c.self.inside.bound c.max-self-inside.result c.self.inside.dd.triples c.self.invariant.2 wide room refl,
+      IsPairs-wide c.self.inside.old_pairs c.self.inside.bound c.max-self-inside.result c.self.inside.dd.triples wide c.self.invariant.3,
     )
 
 pub overflow_add-largest : goal.overflow_add-largest

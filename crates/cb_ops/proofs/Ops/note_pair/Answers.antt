@@ -3,7 +3,7 @@ use Rattle.cb_dd.specs.Diagram.{Store}
 use Rattle.cb_ops.specs.Call.{IsMemo}
 use Rattle.cb_ops.specs.Pair.{IsPairAnswer}
 use Rattle.cb_ops.proofs.Memo.{IsMemo-same, either-way}
-use Rattle.cb_ops.proofs.Pairs.{IsPairs-insert, IsPairs-same, pair-call, pair-below}
+use Rattle.cb_ops.proofs.Pairs.{IsPairs-insert, IsPairs-same, IsPairs-wide, pair-call, pair-below}
 use Rattle.cb_ops.proofs.Ops.note_pair.Goals as goal
 use Rattle.std.proofs.Common.{refl}
 
@@ -34,6 +34,8 @@ invariant_of-self c =
       either-way c.insert.result c.insert.ensures.updates c.insert.ensures.err
           (λ u. IsPairs-insert c.self.inside.pairs c.insert.new.self c.self.inside.bound top c.self.inside.dd.triples c.self.invariant.1 wide c.in-Some.pair c.in-Ok.answer kept u.0)
           (λ u. IsPairs-same c.self.inside.pairs c.insert.new.self c.self.inside.bound top c.self.inside.dd.triples c.self.invariant.1 wide u),
+      IsMemo-same c.self.inside.old_memo c.self.inside.old_memo c.self.inside.bound top c.self.inside.dd.triples c.self.invariant.2 wide room refl,
+      IsPairs-wide c.self.inside.old_pairs c.self.inside.bound top c.self.inside.dd.triples wide c.self.invariant.3,
     )
 
 pub overflow_add-largest : goal.overflow_add-largest

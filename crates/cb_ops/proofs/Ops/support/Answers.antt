@@ -3,8 +3,7 @@ use Rattle.std.proofs.lemmas.List.Sorted.{IsNonDecreasingBy-from_sort}
 use Rattle.std.proofs.lemmas.Map.Keys.{IsStrictlyIncreasing-from_distinct}
 use Rattle.std.specs.List.{list_any}
 use Rattle.std.specs.List.Sorted.{IsStrictlyIncreasing}
-use Rattle.cb_ops.specs.Support.{IsGathered}
-use Rattle.cb_ops.proofs.Gather.{depends-listed, matters-listed, contains-listed}
+use Rattle.cb_ops.proofs.Gather.{depends-listed, contains-listed}
 use Rattle.cb_ops.proofs.Ops.support.Goals as goal
 
 pub returns-clause-rise : goal.returns-clause-rise
@@ -20,5 +19,4 @@ returns-clause-enough c =
 pub returns-clause-needed : goal.returns-clause-needed
 returns-clause-needed c =
     let e : c.in_ok-list.list.items ≡ c.sort.new.self.keys = c.in_ok-list.ensures.ok ∙ c.as_slice.ensures.keys in
-    let g = subst (λ ks. IsGathered c.args.self.now.triples c.args.f.0 ks c.gather.new.levels.keys) c.new-levels.ensures.empty c.gather.ensures.gathered in
-    λ l h free. matters-listed c.args.self.now.triples c.args.f.0 c.gather.new.levels.keys c.in_ok-list.list.items (λ k. ap (list_any (nat_eq k)) e ∙ c.sort.ensures.reordered.2 k) g l (contains-listed c.in_ok-list.list.items l h) free
+    λ l h free. c.in_ok-gather.ensures.matter l (sym (ap (list_any (nat_eq l)) e ∙ c.sort.ensures.reordered.2 l) ∙ contains-listed c.in_ok-list.list.items l h) free

@@ -9,36 +9,41 @@ use Rattle.std.specs.Int.{w64}
 use Rattle.std.specs.Prelude.{FitsSigned}
 use Rattle.cb_laws.proofs.FormValues.{form_variable, form_integer, form_closed}
 use Rattle.cb_syntax.proofs.Folds.{match_map, not_of, name_with, name_none, list_none, list_tail, pushed}
-use Rattle.cb_syntax.proofs.Moves.{call_end, call_form, args_open, args_took, chain_stop, chain_stops, chain_took, operand_form, operand_variable, operand_integer, not_took, group_open, group_took, list_took, list_stops, list_form_is, list_end_form, call_took, call_stops, operands_more, operands_end, terms_more, terms_took, nil_took, elements_stop, elements_took, list_end_stops, closed_took, tail_open, tail_took}
+use Rattle.cb_syntax.proofs.Moves.{call_end, call_form, args_open, args_took, chain_stop, chain_stops, chain_took, operand_form, operand_variable, operand_integer, not_took, group_open, group_took, list_took, list_stops, list_form_is, list_end_form, call_took, call_stops, operands_more, operands_end, terms_more, terms_took, nil_took, memory, elements_stop, elements_took, list_end_stops, closed_took, tail_open, tail_took}
 use Rattle.cb_syntax.proofs.read.+reader.Goals as goal
 
 pub call-returns-then-not-stands-clause-answer : goal.call-returns-then-not-stands-clause-answer
 call-returns-then-not-stands-clause-answer t c =
     call_form _ _ _ _ _ _ (name_none c.name.result c.new.result _ c.name.ensures c.new.ensures) (call_end c.args.depth (token_of c.args.atom) (rest c.args.tokens.now c.args.at) c.requires.atom c.if-not-stands.ensures)
 
-pub call-returns-in_err-behind-clause-answer : goal.call-returns-in_err-behind-clause-answer
-call-returns-in_err-behind-clause-answer t c =
-    let p = err_from_is_err_and c.from_residual-in_err-behind.result c.from_residual-in_err-behind.ensures.1 in
-    rw (p.1, p.2) (args_open c.args.depth (token_of c.args.atom) (rest c.args.tokens.now c.args.at) c.requires.atom _ _ _ c.if-not-stands.ensures (rest c.args.tokens.now c.in_ok-arguments.after) (forms_of (map form_of c.in_ok-arguments.arguments))
-    c.in_ok-arguments.ensures.answer (omega arith) c.in_err-behind.field-0.0 c.in_err-behind.ensures)
+pub call-returns-in-Err-clause-answer : goal.call-returns-in-Err-clause-answer
+call-returns-in-Err-clause-answer t c =
+    args_open c.args.depth (token_of c.args.atom) (rest c.args.tokens.now c.args.at) c.requires.atom _ _ _ c.if-not-stands.ensures (rest c.args.tokens.now c.in_ok-arguments.after) (forms_of (map form_of c.in_ok-arguments.arguments))
+    c.in_ok-arguments.ensures.answer (omega arith) c.in-Err.stop c.in-Err.ensures
 
-pub call-returns-clause-answer : goal.call-returns-clause-answer
-call-returns-clause-answer t c =
-    call_form _ _ _ _ _ _ (name_with c.name-2.result c.in_ok-arguments.arguments _ c.name-2.ensures)
+pub call-returns-in-Ok-clause-answer : goal.call-returns-in-Ok-clause-answer
+call-returns-in-Ok-clause-answer t c =
+    call_form _ _ _ _ _ _ (name_with c.name-in-Ok.result c.in_ok-arguments.arguments _ c.name-in-Ok.ensures)
     (args_took c.args.depth (token_of c.args.atom) (rest c.args.tokens.now c.args.at) c.requires.atom _ _ _ c.if-not-stands.ensures (rest c.args.tokens.now c.in_ok-arguments.after) (forms_of (map form_of c.in_ok-arguments.arguments))
-    c.in_ok-arguments.ensures.answer (omega arith) c.in_ok-arguments.after (rest c.args.tokens.now c.in_ok-behind.behind) c.in_ok-behind.ensures.1)
+    c.in_ok-arguments.ensures.answer (omega arith) c.in_ok-arguments.after (rest c.args.tokens.now c.in-Ok.behind) c.in-Ok.ensures.1)
 
 pub chain-returns-in_err-first-clause-answer : goal.chain-returns-in_err-first-clause-answer
 chain-returns-in_err-first-clause-answer t c =
     let p = err_from_is_err_and c.from_residual.result c.from_residual.ensures.1 in rw (p.1, p.2) (chain_stop (op_of c.args.op) c.args.depth (rest c.args.tokens.now c.args.at) c.in_err-first.field-0.0 c.in_err-first.ensures.answer)
 
-pub chain-returns-in_err-others-clause-answer : goal.chain-returns-in_err-others-clause-answer
-chain-returns-in_err-others-clause-answer t c =
-    let p = err_from_is_err_and c.from_residual-in_err-others.result c.from_residual-in_err-others.ensures.1 in
-    rw (p.1, p.2) (chain_stops (op_of c.args.op) c.args.depth (rest c.args.tokens.now c.args.at) (rest c.args.tokens.now c.in_ok-first.after) (form_of c.in_ok-first.first) c.in_err-others.field-0.0 c.in_ok-first.ensures.answer c.in_err-others.ensures.answer)
-
 pub chain-returns-clause-answer : goal.chain-returns-clause-answer
-chain-returns-clause-answer t c = chain_took (op_of c.args.op) _ _ _ _ _ _ _ (c.in_ok-first.ensures.answer) (c.in_ok-others.ensures.answer) (c.in_ok-term.ensures)
+chain-returns-clause-answer t c =
+    match_map c.longer.result _ _ _ _ c.longer.ensures.answer
+    (λ r s. chain_took (op_of c.args.op) _ _ _ _ _ _ _ (c.in_ok-first.ensures.answer) s.took s.is)
+    (λ e s. chain_stops (op_of c.args.op) c.args.depth (rest c.args.tokens.now c.args.at) (rest c.args.tokens.now c.in_ok-first.after) (form_of c.in_ok-first.first) e c.in_ok-first.ensures.answer s)
+
+pub longer-returns-clause-answer : goal.longer-returns-clause-answer
+longer-returns-clause-answer t c = record { others = forms_of (map form_of c.in-Ok.found.0); took = c.in-Ok.ensures.answer; is = c.in_ok-term.ensures }
+
+pub longer-returns-in_err-term-clause-answer : goal.longer-returns-in_err-term-clause-answer
+longer-returns-in_err-term-clause-answer t c =
+    let p = err_from_is_err_and c.from_residual.result c.from_residual.ensures.1 in
+    rw (p.1, p.2) (λ is ns d. memory c.in_err-term.field-0.0 _ c.in_err-term.ensures)
 
 pub list-returns-then-stands-clause-answer : goal.list-returns-then-stands-clause-answer
 list-returns-then-stands-clause-answer t c = list_form_is _ _ _ _ _ (list_none c.new.result c.new.ensures) (nil_took _ _ _ _ _ c.if-stands.ensures c.requires)
@@ -82,15 +87,14 @@ operand-returns-in_ok-boxed-in-Tilde-clause-answer t c =
     operand_form _ _ _ _ _ (not_of _ c.in_ok-negated-in-Tilde.negated c.in_ok-boxed-in-Tilde.ensures)
     (not_took _ _ _ _ _ (token_of c.in-Some.first) (c.in-Some.ensures) c.in-Tilde.is (omega arith) _ _ (c.in_ok-negated-in-Tilde.ensures.answer))
 
-pub operand-returns-in_err-behind-in-LeftParen-clause-answer : goal.operand-returns-in_err-behind-in-LeftParen-clause-answer
-operand-returns-in_err-behind-in-LeftParen-clause-answer t c =
-    let p = err_from_is_err_and c.from_residual-in_err-behind-in-LeftParen.result c.from_residual-in_err-behind-in-LeftParen.ensures.1 in
-    rw (p.1, p.2) (group_open c.args.depth _ _ (rest c.args.tokens.now c.args.at) _ (token_of c.in-Some.first) (c.in-Some.ensures) c.in-LeftParen.is (omega arith) (rest c.args.tokens.now c.in_ok-group-in-LeftParen.after) (form_of c.in_ok-group-in-LeftParen.group)
-    c.in_ok-group-in-LeftParen.ensures.answer c.in_err-behind-in-LeftParen.field-0.0 c.in_err-behind-in-LeftParen.ensures)
+pub operand-returns-in-Err-clause-answer : goal.operand-returns-in-Err-clause-answer
+operand-returns-in-Err-clause-answer t c =
+    group_open c.args.depth _ _ (rest c.args.tokens.now c.args.at) _ (token_of c.in-Some.first) (c.in-Some.ensures) c.in-LeftParen.is (omega arith) (rest c.args.tokens.now c.in_ok-group-in-LeftParen.after) (form_of c.in_ok-group-in-LeftParen.group)
+    c.in_ok-group-in-LeftParen.ensures.answer c.in-Err.stop c.in-Err.ensures
 
-pub operand-returns-in_ok-behind-in-LeftParen-clause-answer : goal.operand-returns-in_ok-behind-in-LeftParen-clause-answer
-operand-returns-in_ok-behind-in-LeftParen-clause-answer t c =
-    group_took _ _ _ _ _ (token_of c.in-Some.first) (c.in-Some.ensures) c.in-LeftParen.is (omega arith) (rest c.args.tokens.now c.in_ok-group-in-LeftParen.after) _ (c.in_ok-group-in-LeftParen.ensures.answer) _ _ c.in_ok-behind-in-LeftParen.ensures.1
+pub operand-returns-in-Ok-clause-answer : goal.operand-returns-in-Ok-clause-answer
+operand-returns-in-Ok-clause-answer t c =
+    group_took _ _ _ _ _ (token_of c.in-Some.first) (c.in-Some.ensures) c.in-LeftParen.is (omega arith) (rest c.args.tokens.now c.in_ok-group-in-LeftParen.after) _ (c.in_ok-group-in-LeftParen.ensures.answer) _ _ c.in-Ok.ensures.1
 
 pub operand-returns-else-depth-eq-LIMIT-3-clause-answer : goal.operand-returns-else-depth-eq-LIMIT-3-clause-answer
 operand-returns-else-depth-eq-LIMIT-3-clause-answer t c =
@@ -106,22 +110,22 @@ operand-returns-in-Atom-clause-answer t c =
     (λ r s. call_took _ _ _ _ _ (token_of c.in-Some.first) (c.in-Some.ensures) c.in-Atom.is d _ _ s)
     (λ e s. call_stops _ _ _ _ _ (token_of c.in-Some.first) (c.in-Some.ensures) c.in-Atom.is d e s)
 
-pub operands-loop-alloc-preserved : goal.operands-loop-alloc-preserved
-operands-loop-alloc-preserved t c = record {
+pub more_operands-loop-alloc-preserved : goal.more_operands-loop-alloc-preserved
+more_operands-loop-alloc-preserved t c = record {
   forward = let f = c.in_ok-term.ensures.forward in let g = c.loop-alloc.invariant.forward in omega arith;
   so_far = operands_more (op_of c.args.op) _ _ _ _ c.loop-alloc.invariant.so_far _ _ _
       (subst (λ k. AheadOf k (length c.args.tokens.now) c.loop-alloc.left (rest c.args.tokens.now c.loop-alloc.left) (rest c.args.tokens.now (c.loop-alloc.left + 1))) c.kind.ensures c.loop-alloc-test.ensures) (omega arith) _ _ (c.in_ok-term.ensures.answer) _ (pushed _ _ _ c.in_ok-push.ensures);
 }
 
-pub operands-returns-clause-answer : goal.operands-returns-clause-answer
-operands-returns-clause-answer t c =
+pub more_operands-returns-clause-answer : goal.more_operands-returns-clause-answer
+more_operands-returns-clause-answer t c =
     operands_end (op_of c.args.op) _ _ _ _ c.loop-alloc.invariant.so_far (subst (λ k. NoKind k (rest c.args.tokens.now c.loop-alloc.left)) c.kind.ensures c.loop-alloc-test.ensures)
 
-pub terms-returns-then-not-stands-clause-answer : goal.terms-returns-then-not-stands-clause-answer
-terms-returns-then-not-stands-clause-answer t c = terms_took _ _ _ _ c.loop-found.invariant.so_far _ _ c.in_ok-term.ensures.answer _ (pushed _ _ _ c.in_ok-push.ensures) c.if-not-stands.ensures
+pub more_terms-returns-then-not-stands-clause-answer : goal.more_terms-returns-then-not-stands-clause-answer
+more_terms-returns-then-not-stands-clause-answer t c = terms_took _ _ _ _ c.loop-term.invariant.so_far _ _ c.in_ok-term.ensures.answer _ (pushed _ _ _ c.in_ok-push.ensures) c.if-not-stands.ensures
 
-pub terms-loop-found-preserved : goal.terms-loop-found-preserved
-terms-loop-found-preserved t c = record {
-  forward = let f = c.in_ok-term.ensures.forward in let g = c.loop-found.invariant.forward in omega arith;
-  so_far = terms_more _ _ _ _ c.loop-found.invariant.so_far _ _ c.in_ok-term.ensures.answer _ (pushed _ _ _ c.in_ok-push.ensures) _ _ _ c.if-not-stands.ensures (omega arith);
+pub more_terms-loop-term-preserved : goal.more_terms-loop-term-preserved
+more_terms-loop-term-preserved t c = record {
+  forward = let f = c.in_ok-term.ensures.forward in let g = c.loop-term.invariant.forward in omega arith;
+  so_far = terms_more _ _ _ _ c.loop-term.invariant.so_far _ _ c.in_ok-term.ensures.answer _ (pushed _ _ _ c.in_ok-push.ensures) _ _ _ c.if-not-stands.ensures (omega arith);
 }

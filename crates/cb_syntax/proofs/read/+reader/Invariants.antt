@@ -5,43 +5,52 @@ use Rattle.cb_syntax.proofs.Moves.{TermsSoFar, OperandsSoFar}
 use Rattle.cb_syntax.proofs.read.+reader.Given as goal
 
 abbrev pub decreases-operand : goal.decreases-operand
-decreases-operand l = 10 * (length l.tokens.now - l.at)
+decreases-operand l = 20 * (length l.tokens.now - l.at)
 
 abbrev pub decreases-call : goal.decreases-call
-decreases-call l = 10 * (length l.tokens.now - l.at) + 8
+decreases-call l = 20 * (length l.tokens.now - l.at) + 11
 
 abbrev pub decreases-terms : goal.decreases-terms
-decreases-terms l = 10 * (length l.tokens.now - l.at) + 7
+decreases-terms l = 20 * (length l.tokens.now - l.at) + 10
+
+abbrev pub decreases-more_terms : goal.decreases-more_terms
+decreases-more_terms l = 20 * (length l.tokens.now - l.at) + 9
 
 abbrev pub decreases-list : goal.decreases-list
-decreases-list l = 10 * (length l.tokens.now - l.at) + 8
+decreases-list l = 20 * (length l.tokens.now - l.at) + 11
 
 abbrev pub decreases-list_end : goal.decreases-list_end
-decreases-list_end l = 10 * (length l.tokens.now - l.at)
+decreases-list_end l = 20 * (length l.tokens.now - l.at)
 
 abbrev pub decreases-chain : goal.decreases-chain
-decreases-chain l = 10 * (length l.tokens.now - l.at) + 2 + levels l.op
+decreases-chain l = 20 * (length l.tokens.now - l.at) + 3 + levels l.op
 
 abbrev pub decreases-tighter : goal.decreases-tighter
-decreases-tighter l = 10 * (length l.tokens.now - l.at) + 1 + levels l.op
+decreases-tighter l = 20 * (length l.tokens.now - l.at) + 2 + levels l.op
+
+abbrev pub decreases-longer : goal.decreases-longer
+decreases-longer l = 20 * (length l.tokens.now - l.at) + 2
 
 abbrev pub decreases-operands : goal.decreases-operands
-decreases-operands l = 10 * (length l.tokens.now - l.at)
+decreases-operands l = 20 * (length l.tokens.now - l.at) + 1
 
-abbrev pub invariant-operands-loop-alloc : goal.invariant-operands-loop-alloc
-invariant-operands-loop-alloc l = record {
+abbrev pub decreases-more_operands : goal.decreases-more_operands
+decreases-more_operands l = 20 * (length l.tokens.now - l.at)
+
+abbrev pub invariant-more_operands-loop-alloc : goal.invariant-more_operands-loop-alloc
+invariant-more_operands-loop-alloc l = record {
   forward : l.fn.at ≤ l.left;
   so_far : OperandsSoFar (op_of l.op) l.depth (rest l.tokens l.fn.at) (rest l.tokens l.left) (map form_of l.found);
 }
 
-abbrev pub decreases-operands-loop-alloc : goal.decreases-operands-loop-alloc
-decreases-operands-loop-alloc l = length l.tokens - l.left
+abbrev pub decreases-more_operands-loop-alloc : goal.decreases-more_operands-loop-alloc
+decreases-more_operands-loop-alloc l = length l.tokens - l.left
 
-abbrev pub invariant-terms-loop-found : goal.invariant-terms-loop-found
-invariant-terms-loop-found l = record {
+abbrev pub invariant-more_terms-loop-term : goal.invariant-more_terms-loop-term
+invariant-more_terms-loop-term l = record {
   forward : l.fn.at ≤ l.left;
   so_far : TermsSoFar l.depth (rest l.tokens l.fn.at) (rest l.tokens l.left) (map form_of l.found);
 }
 
-abbrev pub decreases-terms-loop-found : goal.decreases-terms-loop-found
-decreases-terms-loop-found l = length l.tokens - l.left
+abbrev pub decreases-more_terms-loop-term : goal.decreases-more_terms-loop-term
+decreases-more_terms-loop-term l = length l.tokens - l.left

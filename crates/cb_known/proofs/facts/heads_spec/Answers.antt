@@ -1,0 +1,8 @@
+use Rattle.std.proofs.Common.{◌∙◌}
+use Rattle.cb_model.specs.Forms.{form_of}
+use Rattle.cb_model.specs.Loading.{spec_sign}
+use Rattle.cb_known.proofs.Names.{sign_named}
+use Rattle.cb_known.proofs.facts.heads_spec.Goals as goal
+
+pub returns-in-Some : goal.returns-in-Some
+returns-in-Some c = c.is_spec.ensures.turned ∙ sign_named spec_sign (form_of c.args.head.now) c.in-Some.name.now c.in-Some.args.now c.in-Some.ensures

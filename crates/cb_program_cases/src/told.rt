@@ -1,0 +1,209 @@
+//! Programs and queries over them.
+
+ghost use Rattle.std.specs.Prelude.{◌≡◌, ◌≤◌, true, length};
+ghost use Rattle.cb_model.specs.Forms.{query_form};
+ghost use Rattle.cb_model.specs.Written.{query_written};
+
+use crate::program;
+use crate::text::{push, push_number};
+use crate::trees::{Names, push_goals, push_trees};
+use cb_model::{ClauseView, RawQuery, Sort};
+use cb_sorts::{Program, Query};
+use cb_syntax::read_queries;
+use std::alloc::Global;
+use std::test::Fail;
+
+/// Writes how many clauses the program of a file has, or its refusal.
+pub fn tell_count(alloc: Global, source: &[u8], out: &mut Vec<u8>) -> Result<(), Fail>
+    requires { length source.now ≤ 4194304 }
+{
+    match program(alloc, source) {
+        Ok(Ok(loaded)) => {
+            let count = loaded.clauses();
+            drop(loaded);
+            push_number(alloc, out, i64::from(count))?;
+            push(out, " clauses\n")
+        }
+        Ok(Err(error)) => push(out, format!(in alloc; "{error:?}\n")?.as_str()),
+        Err(error) => push(out, format!(in alloc; "{error:?}\n")?.as_str()),
+    }
+}
+
+/// Writes the constants and the clauses of the program of a file, a line each.
+pub fn tell_program(alloc: Global, source: &[u8], out: &mut Vec<u8>) -> Result<(), Fail>
+    requires { length source.now ≤ 4194304 }
+{
+    let loaded = program(alloc, source)??;
+    let told = push_program(alloc, out, &loaded);
+    drop(loaded);
+    told
+}
+
+// Appends the constants and the clauses of a program.
+fn push_program(alloc: Global, out: &mut Vec<u8>, loaded: &Program<'_>) -> Result<(), Fail> {
+    push(out, "constants")?;
+    for constant in 0..loaded.constants() {
+        push(out, " ")?;
+        out.extend_from_slice(loaded.constant_name(constant))?;
+    }
+    push(out, "\n")?;
+    for clause in 0..loaded.clauses() {
+        push_clause(alloc, out, loaded, clause)?;
+        push(out, "\n")?;
+    }
+    Ok(())
+}
+
+// Appends a clause, the sorts of its variables, and what is known of its predicate.
+fn push_clause(
+    alloc: Global,
+    out: &mut Vec<u8>,
+    loaded: &Program<'_>,
+    number: u32,
+) -> Result<(), Fail> {
+    if number >= loaded.clauses() {
+        return Ok(());
+    }
+    let names = Names {
+        program: loaded,
+        query: None,
+    };
+    let clause = loaded.clause(number);
+    names.push(out, clause.pred)?;
+    push_trees(alloc, out, &names, clause.head)?;
+    push(out, " :- ")?;
+    push_goals(alloc, out, &names, clause.body)?;
+    push_sorts(alloc, out, clause.sorts)?;
+    push_predicate(alloc, out, loaded, &clause)?;
+    match loaded.after(number) {
+        Some(next) => push(out, format!(in alloc; ", next {next}")?.as_str()),
+        None => push(out, ", last"),
+    }
+}
+
+// Appends the sorts of variables.
+fn push_sorts(alloc: Global, out: &mut Vec<u8>, sorts: &[Sort]) -> Result<(), Fail> {
+    push(out, ";")?;
+    for sort in sorts {
+        push(out, format!(in alloc; " {sort:?}")?.as_str())?;
+    }
+    Ok(())
+}
+
+// Appends whether the clauses of a predicate are demon rules, what its arguments have to be, and its first clause.
+fn push_predicate(
+    alloc: Global,
+    out: &mut Vec<u8>,
+    loaded: &Program<'_>,
+    clause: &ClauseView<'_>,
+) -> Result<(), Fail> {
+    push(out, ";")?;
+    if clause.pred as usize >= loaded.names() {
+        return Ok(());
+    }
+    if loaded.demon(clause.pred) {
+        push(out, " demon")?;
+    }
+    for place in 0..clause.head.len() {
+        let when = loaded.when(clause.pred, u32::try_from(place).unwrap_or(u32::MAX));
+        push(out, format!(in alloc; " {when:?}")?.as_str())?;
+    }
+    match loaded.first(clause.pred) {
+        Some(first) => push(out, format!(in alloc; "; first {first}")?.as_str()),
+        None => push(out, "; none"),
+    }
+}
+
+/// Writes what the first query of a text asks of the program of a file, or its refusal.
+pub fn tell_query(alloc: Global, source: &[u8], text: &[u8], out: &mut Vec<u8>) -> Result<(), Fail>
+    requires file { length source.now ≤ 4194304 }
+    requires query { length text.now ≤ 4194304 }
+{
+    let loaded = program(alloc, source)??;
+    let told = tell_asked(alloc, &loaded, text, out);
+    drop(loaded);
+    told
+}
+
+// Writes what the first query of a text asks of a program, or its refusal. The text may live shorter than that of the
+// file.
+fn tell_asked<'s: 'q, 'q>(
+    alloc: Global,
+    loaded: &Program<'s>,
+    text: &'q [u8],
+    out: &mut Vec<u8>,
+) -> Result<(), Fail>
+    requires { length text.now ≤ 4194304 }
+{
+    let queries = read_queries(alloc, text)?;
+    let told = match queries.first() {
+        Some(raw) => tell_raw(alloc, loaded, raw, out),
+        None => push(out, "none\n"),
+    };
+    drop(queries);
+    told
+}
+
+// Writes what a query asks of a program, or its refusal.
+fn tell_raw<'s: 'q, 'q>(
+    alloc: Global,
+    loaded: &Program<'s>,
+    raw: &RawQuery<'q>,
+    out: &mut Vec<u8>,
+) -> Result<(), Fail>
+    requires { query_written (query_form raw.now) ≡ true }
+{
+    match loaded.query(alloc, raw) {
+        Ok(query) => {
+            let told = push_query(alloc, out, loaded, &query);
+            drop(query);
+            told
+        }
+        Err(error) => push(out, format!(in alloc; "{error:?}\n")?.as_str()),
+    }
+}
+
+// Appends a query: its goals, the sorts of its variables, those that are printed with their numbers, and its own names.
+fn push_query<'s>(
+    alloc: Global,
+    out: &mut Vec<u8>,
+    loaded: &Program<'s>,
+    query: &Query<'s>,
+) -> Result<(), Fail> {
+    let names = Names {
+        program: loaded,
+        query: Some(query),
+    };
+    push_goals(alloc, out, &names, query.goals())?;
+    push_sorts(alloc, out, query.sorts())?;
+    push(out, "; prints")?;
+    for place in 0..query.printed_count() {
+        if let Some((number, name)) = query.printed(u32::try_from(place).unwrap_or(u32::MAX)) {
+            push(out, " ")?;
+            out.extend_from_slice(name)?;
+            push_number(alloc, out, i64::from(number))?;
+        }
+    }
+    push_own(alloc, out, loaded, query)
+}
+
+// Appends the names that are the query's own, from the last of the program on.
+fn push_own<'s>(
+    alloc: Global,
+    out: &mut Vec<u8>,
+    loaded: &Program<'s>,
+    query: &Query<'s>,
+) -> Result<(), Fail> {
+    push(out, "; own")?;
+    let last = loaded.names().saturating_sub(1).min(100) as u32;
+    for number in last..last + 4 {
+        match query.name(number) {
+            Some(name) => {
+                push(out, " ")?;
+                out.extend_from_slice(name)?;
+            }
+            None => push(out, " -")?,
+        }
+    }
+    push(out, "\n")
+}
