@@ -1,8 +1,8 @@
 -- Lists that stand in one, one behind another.
-use Rattle.std.proofs.Common.{◌≡◌, ℕ, zero, suc, ◌+◌, ◌-◌, ◌<◌, ◌≤◌, List, [], ◌∷◌, ◌++◌, length, take, drop, get_or, refl, ap, ◌∙◌, arith, length-drop}
-use Rattle.std.proofs.lemmas.List.{take-append-le, drop-append-le, take_all, drop_all}
-use Rattle.cb_model.specs.Order.{needs_of}
-use Rattle.cb_order.specs.Slices.{slices, Rises, start_of}
+use Rattle.std.proofs.Common.{◌≡◌, ℕ, zero, suc, ◌+◌, ◌-◌, ◌<◌, ◌≤◌, List, [], ◌∷◌, ◌++◌, length, take, drop, get_or, slice_index_or, flat_map, refl, sym, ap, ◌∙◌, arith, length-drop}
+use Rattle.std.proofs.lemmas.List.Concat.{flat_map-cons}
+use Rattle.std.proofs.lemmas.List.{take-append-drop, take-append-le, drop-append-le, take_all, drop_all}
+use Rattle.cb_lists.specs.Slices.{slices, Rises, start_of}
 
 pub slices-long : (ns : List ℕ) (from : ℕ) (es : List ℕ) → length (slices ns from es) ≡ length es
 slices-long ns from [] = refl
@@ -28,7 +28,7 @@ start-low from [] last k r l = absurd (omega (arith, l))
 start-low from (e ∷ es) last zero r l = r.0
 start-low from (e ∷ es) last (suc k) r l = start-low e es last k r.1 (omega (arith, l))
 
-pub slices-at : (ns : List ℕ) (from : ℕ) (es : List ℕ) (k : ℕ) → k < length es → needs_of (slices ns from es) k ≡ take (get_or es k 0 - start_of from es k) (drop (start_of from es k) ns)
+pub slices-at : (ns : List ℕ) (from : ℕ) (es : List ℕ) (k : ℕ) → k < length es → slice_index_or (slices ns from es) k [] ≡ take (get_or es k 0 - start_of from es k) (drop (start_of from es k) ns)
 slices-at ns from [] k l = absurd (omega (arith, l))
 slices-at ns from (e ∷ es) zero l = refl
 slices-at ns from (e ∷ es) (suc k) l = slices-at ns e es k (omega (arith, l))
@@ -56,3 +56,20 @@ slices-push ns xs from (e ∷ es) last more r here there =
 pub start-zero : (from : ℕ) (es : List ℕ) → from ≡ start_of from es 0
 start-zero from [] = refl
 start-zero from (e ∷ es) = refl
+
+-- what is left after two cuts
+drop-twice : (ns : List ℕ) (from n : ℕ) → drop n (drop from ns) ≡ drop (from + n) ns
+drop-twice ns zero n = ap (λ k. drop k ns) (omega arith)
+drop-twice [] (suc from) n = drop_all n [] (omega arith) ∙ sym (drop_all (suc from + n) [] (omega arith))
+drop-twice (x ∷ ns) (suc from) n = drop-twice ns from n ∙ ap (λ k. drop k (x ∷ ns)) (let z : suc (from + n) ≡ suc from + n = omega arith in z)
+
+-- all lists are what stands from the first place on
+pub slices-flat : (ns : List ℕ) (from : ℕ) (es : List ℕ) (last : ℕ) → Rises from es last → last ≡ length ns → flat_map (λ (xs : List ℕ). xs) (slices ns from es) ≡ drop from ns
+slices-flat ns from [] last r e = sym (drop_all from ns (omega (arith, r, e)))
+slices-flat ns from (d ∷ es) last r e =
+    let f = high d es last r.1 in
+    flat_map-cons (λ (xs : List ℕ). xs) (take (d - from) (drop from ns)) (slices ns d es)
+    ∙ ap (λ ys. take (d - from) (drop from ns) ++ ys) (slices-flat ns d es last r.1 e)
+    ∙ ap (λ k. take (d - from) (drop from ns) ++ drop k ns) (let z : d ≡ from + (d - from) = omega (arith, r.0) in z)
+    ∙ ap (λ ys. take (d - from) (drop from ns) ++ ys) (sym (drop-twice ns from (d - from)))
+    ∙ take-append-drop (d - from) (drop from ns)
