@@ -36,6 +36,7 @@ module _ (xs : List Text) (ts : List RawTerm) (start : ℕ) where
   spec-stop i t l at own es so n = so.test ∙ ap (λ (fs : Forms). are_spec xs (apart_all fs own).0) (opened ts i t l at) ∙ ap (λ b. b && are_spec xs (apart_all (all_forms (drop (i + 1) ts)) (apart (form_of t) own).1).0) n
 
   pub spec-end : (i : ℕ) → length ts ≤ i → (own : ℕ) (es : List Expr) → SpecSoFar xs ts start i own es → (are_spec xs (apart_all (all_forms ts) start).0 ≡ true) × (es ≡ as_exprs (over xs) (apart_all (all_forms ts) start).0)
-  spec-end i l own es so =
-      (so.test ∙ ap (λ (us : List RawTerm). are_spec xs (apart_all (all_forms us) own).0) (drop_past ts i l),
-        sym (so.exprs ∙ ap (λ (us : List RawTerm). es ++ as_exprs (over xs) (apart_all (all_forms us) own).0) (drop_past ts i l) ∙ append-nil es))
+  spec-end i l own es so = (
+    so.test ∙ ap (λ (us : List RawTerm). are_spec xs (apart_all (all_forms us) own).0) (drop_past ts i l),
+    sym (so.exprs ∙ ap (λ (us : List RawTerm). es ++ as_exprs (over xs) (apart_all (all_forms us) own).0) (drop_past ts i l) ∙ append-nil es),
+  )

@@ -83,7 +83,7 @@ module _ (ts : List RawTerm) (old : Nets) where
   nets-on i t l at now mid ks ks2 k so r e = record {
     read = λ new ms q.
         subst (ReadsNets old new (all_forms ts)) (sym (append_assoc ks (k ∷ []) ms) ∙ ap (λ (z : List ℕ). z ++ ms) (sym e))
-            (so.read new (k ∷ ms) (subst (λ (fs : Forms). ReadsNets now new fs (k ∷ ms)) (sym (opened ts i t l at)) (nets-more now mid new (form_of t) (all_forms (drop (i + 1) ts)) k ms r q)));
+        (so.read new (k ∷ ms) (subst (λ (fs : Forms). ReadsNets now new fs (k ∷ ms)) (sym (opened ts i t l at)) (nets-more now mid new (form_of t) (all_forms (drop (i + 1) ts)) k ms r q)));
     none = λ n. so.none (ap (λ (fs : Forms). nets_of (apart_all fs now.own).0) (opened ts i t l at) ∙ nets-none-later now mid (form_of t) (all_forms (drop (i + 1) ts)) k r n);
   }
 
@@ -93,7 +93,7 @@ module _ (ts : List RawTerm) (old : Nets) where
   pub nets-end : (i : ℕ) → length ts ≤ i → (now : Nets) (ks : List ℕ) → NetsSoFar i now ks → ReadsNets old now (all_forms ts) ks
   nets-end i l now ks so =
       subst (ReadsNets old now (all_forms ts)) (append-nil ks)
-          (so.read now [] (subst (λ (us : List RawTerm). ReadsNets now now (all_forms us) []) (sym (drop_past ts i l)) (record { xs = []; nets = refl; own = refl; names = refl; numbers = tt })))
+      (so.read now [] (subst (λ (us : List RawTerm). ReadsNets now now (all_forms us) []) (sym (drop_past ts i l)) (record { xs = []; nets = refl; own = refl; names = refl; numbers = tt })))
 
 -- ---- instances, one after another
 
@@ -124,8 +124,8 @@ module _ (ts : List RawTerm) (old : Nets) where
   instances-init ps ins outs e f g = record {
     read = λ new qs as' bs r.
         subst (λ (l : List Text). ReadsInstances old new (all_forms ts) (l ++ qs) (ins ++ as') (outs ++ bs)) (sym e)
-            (subst (λ (l : List (List ℕ)). ReadsInstances old new (all_forms ts) qs (l ++ as') (outs ++ bs)) (sym f)
-            (subst (λ (l : List (List ℕ)). ReadsInstances old new (all_forms ts) qs as' (l ++ bs)) (sym g) r));
+        (subst (λ (l : List (List ℕ)). ReadsInstances old new (all_forms ts) qs (l ++ as') (outs ++ bs)) (sym f)
+        (subst (λ (l : List (List ℕ)). ReadsInstances old new (all_forms ts) qs as' (l ++ bs)) (sym g) r));
     none = λ e. e;
   }
 
@@ -134,10 +134,10 @@ module _ (ts : List RawTerm) (old : Nets) where
   instances-on i t l at now mid ps ps2 ins ins2 outs outs2 p a b so r e f g = record {
     read = λ new qs as' bs q.
         subst (λ (z : List Text). ReadsInstances old new (all_forms ts) z (ins2 ++ as') (outs2 ++ bs)) (sym (append_assoc ps (p ∷ []) qs) ∙ ap (λ (z : List Text). z ++ qs) (sym e))
-            (subst (λ (z : List (List ℕ)). ReadsInstances old new (all_forms ts) (ps ++ p ∷ qs) z (outs2 ++ bs)) (sym (append_assoc ins (a ∷ []) as') ∙ ap (λ (z : List (List ℕ)). z ++ as') (sym f))
-            (subst (λ (z : List (List ℕ)). ReadsInstances old new (all_forms ts) (ps ++ p ∷ qs) (ins ++ a ∷ as') z) (sym (append_assoc outs (b ∷ []) bs) ∙ ap (λ (z : List (List ℕ)). z ++ bs) (sym g))
-            (so.read new (p ∷ qs) (a ∷ as') (b ∷ bs) (subst (λ (fs : Forms). ReadsInstances now new fs (p ∷ qs) (a ∷ as') (b ∷ bs)) (sym (opened ts i t l at))
-            (instances-more now mid new (form_of t) (all_forms (drop (i + 1) ts)) p qs a b as' bs r q)))));
+        (subst (λ (z : List (List ℕ)). ReadsInstances old new (all_forms ts) (ps ++ p ∷ qs) z (outs2 ++ bs)) (sym (append_assoc ins (a ∷ []) as') ∙ ap (λ (z : List (List ℕ)). z ++ as') (sym f))
+        (subst (λ (z : List (List ℕ)). ReadsInstances old new (all_forms ts) (ps ++ p ∷ qs) (ins ++ a ∷ as') z) (sym (append_assoc outs (b ∷ []) bs) ∙ ap (λ (z : List (List ℕ)). z ++ bs) (sym g))
+        (so.read new (p ∷ qs) (a ∷ as') (b ∷ bs) (subst (λ (fs : Forms). ReadsInstances now new fs (p ∷ qs) (a ∷ as') (b ∷ bs)) (sym (opened ts i t l at))
+        (instances-more now mid new (form_of t) (all_forms (drop (i + 1) ts)) p qs a b as' bs r q)))));
     none = λ n. so.none (ap (λ (fs : Forms). instances_in (apart_all fs now.own).0) (opened ts i t l at) ∙ instances-none-later now mid (form_of t) (all_forms (drop (i + 1) ts)) p a b r n);
   }
 
@@ -147,7 +147,7 @@ module _ (ts : List RawTerm) (old : Nets) where
   pub instances-end : (i : ℕ) → length ts ≤ i → (now : Nets) (ps : List Text) (ins outs : List (List ℕ)) → InstancesSoFar i now ps ins outs → ReadsInstances old now (all_forms ts) ps ins outs
   instances-end i l now ps ins outs so =
       subst (λ (z : List Text). ReadsInstances old now (all_forms ts) z ins outs) (append-nil ps)
-          (subst (λ (z : List (List ℕ)). ReadsInstances old now (all_forms ts) (ps ++ []) z outs) (append-nil ins)
-          (subst (λ (z : List (List ℕ)). ReadsInstances old now (all_forms ts) (ps ++ []) (ins ++ []) z) (append-nil outs)
-          (so.read now [] [] [] (subst (λ (us : List RawTerm). ReadsInstances now now (all_forms us) [] [] []) (sym (drop_past ts i l))
-          (record { instances = []; are = refl; own = refl; names = ([], sym (append-nil now.names)); fit = no_instances })))))
+      (subst (λ (z : List (List ℕ)). ReadsInstances old now (all_forms ts) (ps ++ []) z outs) (append-nil ins)
+      (subst (λ (z : List (List ℕ)). ReadsInstances old now (all_forms ts) (ps ++ []) (ins ++ []) z) (append-nil outs)
+      (so.read now [] [] [] (subst (λ (us : List RawTerm). ReadsInstances now now (all_forms us) [] [] []) (sym (drop_past ts i l))
+      (record { instances = []; are = refl; own = refl; names = ([], sym (append-nil now.names)); fit = no_instances })))))

@@ -145,10 +145,7 @@ fn read_ports<'s>(
 /// The specification of a fact's head; `None` where the head isn't in the form of a specification fact: a name with an
 /// atom, a list of inputs of which no named one stands twice, and a list of expressions over these inputs, 0, 1 and the
 /// operators.
-pub fn read_spec<'s>(
-    alloc: Global,
-    head: &RawTerm<'s>,
-) -> Result<Option<RawSpec<'s>>, AllocError>
+pub fn read_spec<'s>(alloc: Global, head: &RawTerm<'s>) -> Result<Option<RawSpec<'s>>, AllocError>
     requires { is_written (form_of head.now) ≡ true }
     ensures { IfOk result (λ o. MatchOption o (spec_of (apart (form_of head.now) 0).0 ≡ None) (ReadsSpec (form_of head.now))) }
 {

@@ -16,7 +16,7 @@ read_instance-requires c = written_here c.args.terms.now c.loop-term.term-index 
 pub returns-in_default : goal.returns-in_default
 returns-in_default c =
     instances-stop c.args.terms.now c.args.nets.now c.loop-term.term-index c.term-item.result c.loop-term-test.true c.term-item.is c.loop-term.nets (texts c.loop-term.all.parts.items) c.loop-term.all.ins c.loop-term.all.outs c.loop-term.invariant.so
-        (rw c.in_default.is at c.in_ok-instance.ensures)
+    (rw c.in_default.is at c.in_ok-instance.ensures)
 
 pub loop-term-preserved : goal.loop-term-preserved
 loop-term-preserved c = record {
