@@ -1,3 +1,2 @@
 pub mod Goals
 pub mod Solving
-pub mod Tried

@@ -239,11 +239,13 @@ pub store-drawn : (s : Seen) (n : ℕ) → IsStore s → IsStore (record s { dra
 unfolding view_of
 store-drawn s n st = record {
   good = st.good;
+  form = st.form;
   slots = st.slots;
   levels = λ l x h. let w : l < s.drawn = st.levels l x h in omega arith;
   constants = let w : s.constants ≤ s.drawn = st.constants in omega arith;
   nodes = st.nodes;
   trail = st.trail;
+  changed = st.changed;
 }
 
 pub argument-drawn : (s : Seen) (n f : ℕ) → IsArgument s f → IsArgument (record s { drawn = s.drawn + n }) f

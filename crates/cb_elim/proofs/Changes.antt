@@ -1,12 +1,11 @@
 -- The changes that an equation makes, and the way back.
-use Rattle.std.proofs.Common.{◌≡◌, inl, inr, ℕ, suc, ◌+◌, ◌<◌, ◌≤◌, true, false, List, [], ◌∷◌, ◌++◌, length, take, get_or, nat_eq, if◌then◌else◌, refl, sym, ap, ◌∙◌, arith, length-append, append_assoc}
+use Rattle.std.proofs.Common.{◌≡◌, inl, inr, ℕ, zero, suc, ◌+◌, ◌<◌, ◌≤◌, true, false, List, [], ◌∷◌, ◌++◌, length, get_or, nat_eq, if◌then◌else◌, refl, sym, ap, ◌∙◌, arith, length-append, append_assoc}
 use Rattle.std.specs.Prelude.{slice_set}
-use Rattle.std.proofs.lemmas.Bool.{cases_Bool, eqb-true, eq-eqb, ne_eqb}
-use Rattle.std.proofs.lemmas.List.{take_more, length-take-le, append-nil}
+use Rattle.std.proofs.lemmas.Bool.{cases_Bool, eqb-true, eq-eqb}
 use Rattle.cb_model.specs.Bits.{Each}
 use Rattle.cb_dd.specs.declared.Node.{Node}
 use Rattle.cb_elim.specs.declared.Change.{Change}
-use Rattle.cb_elim.specs.Moments.{changes_from, undone}
+use Rattle.cb_elim.specs.Moments.{change_at, changes_from, undone}
 
 set-seam : (xs ys : List Node) (n v : Node) → slice_set (xs ++ n ∷ ys) (length xs) v ≡ xs ++ v ∷ ys
 set-seam [] ys n v = refl
@@ -48,43 +47,33 @@ pub changes-same : (k : ℕ) (ns : List Node) → changes_from k ns ns ≡ []
 changes-same k [] = refl
 changes-same k (n ∷ ns) = ap (λ b. if b then changes_from (suc k) ns ns else record { slot = k; value = n } ∷ changes_from (suc k) ns ns) (eq-eqb n.0 n.0 refl) ∙ changes-same (suc k) ns
 
+same-lists : (vs ns : List Node) → length vs ≡ length ns → ((y : ℕ) (e : Node) → get_or vs y e ≡ get_or ns y e) → vs ≡ ns
+same-lists [] [] h agree = refl
+same-lists [] (n ∷ ns) h agree = absurd (omega arith)
+same-lists (v ∷ vs) [] h agree = absurd (omega arith)
+same-lists (v ∷ vs) (n ∷ ns) h agree = let a : v ≡ n = agree 0 n in let b : vs ≡ ns = same-lists vs ns (omega arith) (λ y e. agree (suc y) e) in λ i. a i ∷ b i
+
 pub each-append : (n : ℕ) (xs ys : List Change) → Each (λ c. c.slot < n) xs → Each (λ c. c.slot < n) ys → Each (λ c. c.slot < n) (xs ++ ys)
 each-append n [] ys h w = w
 each-append n (x ∷ xs) ys h w = (h.0, each-append n xs ys h.1 w)
 
--- the change of one slot, if its value changes
-abbrev pub change_at : ℕ → Node → Node → List Change
-change_at k n v = if nat_eq n.0 v.0 then [] else record { slot = k; value = n } ∷ []
-
-changes-last : (j k : ℕ) (ns vs : List Node) (n v : Node) → length ns ≡ length vs → k ≡ j + length ns → changes_from j (ns ++ n ∷ []) (vs ++ v ∷ []) ≡ changes_from j ns vs ++ change_at k n v
-changes-last j k [] [] n v h e = ap (λ (i : ℕ). if nat_eq n.0 v.0 then [] else record { slot = i; value = n } ∷ []) (let d : j ≡ k = omega arith in d)
-changes-last j k [] (w ∷ vs) n v h e = absurd (omega arith)
-changes-last j k (m ∷ ns) [] n v h e = absurd (omega arith)
-changes-last j k (m ∷ ns) (w ∷ vs) n v h e =
-    let r : changes_from (suc j) (ns ++ n ∷ []) (vs ++ v ∷ []) ≡ changes_from (suc j) ns vs ++ change_at k n v = changes-last (suc j) k ns vs n v (omega arith) (omega arith) in
-    elim (nat_eq m.0 w.0) as (λ b. (if b then changes_from (suc j) (ns ++ n ∷ []) (vs ++ v ∷ []) else record { slot = j; value = m } ∷ changes_from (suc j) (ns ++ n ∷ []) (vs ++ v ∷ []))
-    ≡ (if b then changes_from (suc j) ns vs else record { slot = j; value = m } ∷ changes_from (suc j) ns vs) ++ change_at k n v) [
+-- a value is written where from there on nothing was yet
+pub changes-write : (j : ℕ) (ns vs : List Node) (x : ℕ) (v d : Node) → length vs ≡ length ns → x < length ns → ((y : ℕ) (e : Node) → x ≤ y → get_or vs y e ≡ get_or ns y e) →
+    changes_from j ns (slice_set vs x v) ≡ changes_from j ns vs ++ change_at (j + x) (get_or ns x d) v
+changes-write j [] vs x v d same less agree = absurd (omega arith)
+changes-write j (n ∷ ns) [] x v d same less agree = absurd (omega arith)
+changes-write j (n ∷ ns) (w ∷ vs) zero v d same less agree =
+    let here : w ≡ n = agree 0 n (omega arith) in
+    let there : vs ≡ ns = same-lists vs ns (omega arith) (λ y e. agree (suc y) e (omega arith)) in
+    ap (λ zs. if nat_eq n.0 v.0 then changes_from (suc j) ns zs else record { slot = j; value = n } ∷ changes_from (suc j) ns zs) there
+    ∙ ap (λ cs. if nat_eq n.0 v.0 then cs else record { slot = j; value = n } ∷ cs) (changes-same (suc j) ns)
+    ∙ ap (λ (k : ℕ). if nat_eq n.0 v.0 then [] else record { slot = k; value = n } ∷ []) (let e : j ≡ j + 0 = omega arith in e)
+    ∙ sym (ap (λ cs. cs ++ change_at (j + 0) n v) (ap (λ (m : Node). changes_from j (n ∷ ns) (m ∷ vs)) here ∙ ap (λ zs. changes_from j (n ∷ ns) (n ∷ zs)) there ∙ changes-same j (n ∷ ns)))
+changes-write j (n ∷ ns) (w ∷ vs) (suc x) v d same less agree =
+    let r : changes_from (suc j) ns (slice_set vs x v) ≡ changes_from (suc j) ns vs ++ change_at (j + suc x) (get_or ns x d) v
+    = changes-write (suc j) ns vs x v d (omega arith) (omega arith) (λ y e le. agree (suc y) e (omega arith)) ∙ ap (λ k. changes_from (suc j) ns vs ++ change_at k (get_or ns x d) v) (let e : suc j + x ≡ j + suc x = omega arith in e) in
+    elim (nat_eq n.0 w.0) as (λ b. (if b then changes_from (suc j) ns (slice_set vs x v) else record { slot = j; value = n } ∷ changes_from (suc j) ns (slice_set vs x v))
+    ≡ (if b then changes_from (suc j) ns vs else record { slot = j; value = n } ∷ changes_from (suc j) ns vs) ++ change_at (j + suc x) (get_or ns x d) v) [
       | true ↦ r
-      | false ↦ ap (λ cs. record { slot = j; value = m } ∷ cs) r
+      | false ↦ ap (λ cs. record { slot = j; value = n } ∷ cs) r
     ]
-
-changes-next : (ns vs : List Node) (k : ℕ) (d e : Node) → length ns ≡ length vs → k < length vs →
-    changes_from 0 (take (k + 1) ns) (take (k + 1) vs) ≡ changes_from 0 (take k ns) (take k vs) ++ change_at k (get_or ns k d) (get_or vs k e)
-changes-next ns vs k d e same h =
-    ap (λ zs. changes_from 0 zs (take (k + 1) vs)) (take_more ns k d (omega arith))
-    ∙ ap (λ zs. changes_from 0 (take k ns ++ get_or ns k d ∷ []) zs) (take_more vs k e h)
-    ∙ changes-last 0 k (take k ns) (take k vs) (get_or ns k d) (get_or vs k e) (length-take-le k ns (omega arith) ∙ sym (length-take-le k vs (omega arith))) (let l : k ≡ 0 + length (take k ns) = omega (arith, length-take-le k ns (omega arith)) in l)
-
--- one slot on: its value is the same, or its change is added
-pub remember-same : (t : List Change) (ns vs : List Node) (k : ℕ) (d e : Node) → length ns ≡ length vs → k < length vs → (get_or ns k d).0 ≡ (get_or vs k e).0 →
-    t ++ changes_from 0 (take k ns) (take k vs) ≡ t ++ changes_from 0 (take (k + 1) ns) (take (k + 1) vs)
-remember-same t ns vs k d e same h here = sym (ap (λ cs. t ++ cs) (changes-next ns vs k d e same h
-    ∙ ap (λ b. changes_from 0 (take k ns) (take k vs) ++ (if b then [] else record { slot = k; value = get_or ns k d } ∷ [])) (eq-eqb (get_or ns k d).0 (get_or vs k e).0 here)
-    ∙ append-nil (changes_from 0 (take k ns) (take k vs))))
-
-pub remember-more : (t : List Change) (ns vs : List Node) (k : ℕ) (d e : Node) → length ns ≡ length vs → k < length vs → ((get_or ns k d).0 ≡ (get_or vs k e).0 → ⊥) →
-    (t ++ changes_from 0 (take k ns) (take k vs)) ++ record { slot = k; value = get_or ns k d } ∷ [] ≡ t ++ changes_from 0 (take (k + 1) ns) (take (k + 1) vs)
-remember-more t ns vs k d e same h other =
-    append_assoc t (changes_from 0 (take k ns) (take k vs)) (record { slot = k; value = get_or ns k d } ∷ [])
-    ∙ sym (ap (λ cs. t ++ cs) (changes-next ns vs k d e same h
-    ∙ ap (λ b. changes_from 0 (take k ns) (take k vs) ++ (if b then [] else record { slot = k; value = get_or ns k d } ∷ [])) (ne_eqb (get_or ns k d).0 (get_or vs k e).0 other)))

@@ -7,7 +7,7 @@ use Rattle.std.proofs.Math.Path.{fun_ext}
 use Rattle.cb_model.specs.Bits.{Bits, Each, put, xor}
 use Rattle.cb_dd.specs.declared.Node.{Node}
 use Rattle.cb_dd.specs.declared.Stop.{Stop}
-use Rattle.cb_dd.specs.Diagram.{Store, function_of}
+use Rattle.cb_dd.specs.Diagram.{Store, IsNode, function_of}
 use Rattle.cb_ops.specs.Ops.{Grows}
 use Rattle.cb_ops.specs.Support.{IsListed}
 use Rattle.cb_boole.specs.Elimination.{Function, DependsOnly, rest, solved}
@@ -16,11 +16,17 @@ use Rattle.cb_boole.proofs.Point.{put_other}
 use Rattle.cb_boole.proofs.Only.{IsHeld, weaker}
 use Rattle.cb_boole.proofs.Chain.{solved_off}
 use Rattle.cb_boole.proofs.Unify.{AreFree, at_point, cases_stands, constant_away, left_from, left_into, not_solvable, good_after, is_instance, got_back}
+use Rattle.cb_boole.specs.Form.{IsForm}
+use Rattle.cb_boole.proofs.Form.{Falls, form_after}
 use Rattle.cb_boole.proofs.Grow.{fit_two}
+use Rattle.cb_solution.specs.Solution.{IsFalling}
 use Rattle.cb_solution.proofs.Solved.{listed-here, listed-there, listed-cases}
 use Rattle.cb_elim.specs.declared.Change.{Change}
 use Rattle.cb_elim.specs.Store.{Seen, IsStore, IsArgument, IsAsBefore, OnlyNodes, AreThere, with_fulls, stands_in, value_in, view_of}
-use Rattle.cb_elim.specs.Equation.{IsElimination, IsGeneral, HasNoSolution, differ}
+use Rattle.cb_elim.specs.Equation.{AreGeneral, AreMoved, IsElimination, IsGeneral, HasNoSolution, differ}
+use Rattle.cb_elim.proofs.General.{general-at}
+use Rattle.cb_ops.proofs.Ite.{Grows-then}
+use Rattle.cb_ops.specs.Substitute.{Images}
 use Rattle.cb_elim.specs.Unified.{IsSolved, IsSolutionOf, HasNone, HasSameValues, OnlyValues, IsMostGeneral, IsReproductive}
 use Rattle.cb_elim.specs.Moments.{KeepsMoments, changes_from, undone}
 use Rattle.cb_elim.proofs.Views.{with_values, argument-fulls, only-nodes, store-fulls}
@@ -64,6 +70,15 @@ held-from c [] l (inr none) = absurd (true≢false (sym none))
 held-from c (k ∷ ls) l (inl h) = inr (held-from c ls l (inl h))
 held-from c (k ∷ ls) l (inr h) = elim (listed-cases k l ls h) [ inl same ↦ inl same | inr there ↦ inr (held-from c ls l (inr there)) ]
 
+-- that levels fall, said one after another
+each-below : (l : ℕ) (ls : List ℕ) → ((k : ℕ) → IsListed ls k → k < l) → Each (λ k. k < l) ls
+each-below l [] h = tt
+each-below l (k ∷ ls) h = (h k (listed-here k ls), each-below l ls (λ j there. h j (listed-there k j ls there)))
+
+falls : (ls : List ℕ) → IsFalling ls → Falls ls
+falls [] f = tt
+falls (l ∷ ls) f = (each-below l ls f.0, falls ls f.1)
+
 module _ (s : Seen) (st : IsStore s) (f g : ℕ) (a : IsArgument s f) (b : IsArgument s g) where
   fit-differ : IsFit (view_of s) (differ s.nodes.triples f g)
   fit-differ = fit_two (view_of s) xor (function_of s.nodes.triples f) (function_of s.nodes.triples g) a.fit b.fit
@@ -91,6 +106,10 @@ module _ (s : Seen) (st : IsStore s) (f g : ℕ) (a : IsArgument s f) (b : IsArg
 
       good-unified : IsGood (unified (view_of s) ls (differ s.nodes.triples f g))
       good-unified = good_after (view_of s) st.good ls are-free (differ s.nodes.triples f g) fit-differ none_left
+
+      form-unified : IsForm (unified (view_of s) ls (differ s.nodes.triples f g))
+      unfolding view_of
+      form-unified = form_after (view_of s) st.good st.form ls are-free (falls ls el.falls) (differ s.nodes.triples f g) fit-differ are-held none_left
 
       solved-unified : IsSolved (view_of s) (unified (view_of s) ls (differ s.nodes.triples f g)) (function_of s.nodes.triples f) (function_of s.nodes.triples g)
       solved-unified = record {
@@ -126,14 +145,16 @@ module _ (s : Seen) (st : IsStore s) (f g : ℕ) (a : IsArgument s f) (b : IsArg
         pub is-same : HasSameValues (view_of s) (view_of (record s { slots = vs; trail = cs; nodes = t }))
         is-same = subst (λ (T : View). HasSameValues (view_of s) T) (sym view-unified) same-unified
 
-        pub store-solved : AreThere t.triples vs → length vs ≡ length s.slots → Each (λ c. c.slot < length s.slots) cs → IsStore (record s { slots = vs; trail = cs; nodes = t })
-        store-solved there number within = record {
+        pub store-solved : AreThere t.triples vs → length vs ≡ length s.slots → Each (λ c. c.slot < length s.slots) cs → Each (λ c. IsNode t.triples c.value.0) cs → IsStore (record s { slots = vs; trail = cs; nodes = t })
+        store-solved there number within changed = record {
           good = subst IsGood (sym view-unified) good-unified;
+          form = subst IsForm (sym view-unified) form-unified;
           slots = λ x h. let w : x < length s.slots = st.slots x h in omega arith;
           levels = st.levels;
           constants = st.constants;
           nodes = there;
           trail = subst (λ n. Each (λ c. c.slot < n) cs) (sym number) within;
+          changed = changed;
         }
 
 -- ---- as the code leaves the store
@@ -164,10 +185,10 @@ module _ (now s : Seen) (is : s ≡ now) (st : IsStore now) (f g : ℕ) (a : IsA
         (record { levels = gen.levels; elimination = gen.elimination; none_left = gen.none_left; values = gen.at })
 
     module _ (trail : cs ≡ s.trail ++ changes_from 0 s.slots vs) where
-      pub solve-store : IsStore (record s { slots = vs; trail = cs; nodes = t })
-      solve-store = store-solved s inside f g (argument f a) (argument g b) gen.levels gen.elimination gen.none_left vs cs t gen.at gen.there gen.number
+      pub solve-store : Each (λ c. IsNode t.triples c.value.0) cs → IsStore (record s { slots = vs; trail = cs; nodes = t })
+      solve-store changed = store-solved s inside f g (argument f a) (argument g b) gen.levels gen.elimination gen.none_left vs cs t gen.at gen.there gen.number
           (subst (λ (xs : List Change). Each (λ c. c.slot < length s.slots) xs) (sym trail)
-          (each-append (length s.slots) s.trail (changes_from 0 s.slots vs) inside.trail (changes-within 0 s.slots vs (length s.slots) (omega arith))))
+          (each-append (length s.slots) s.trail (changes_from 0 s.slots vs) inside.trail (changes-within 0 s.slots vs (length s.slots) (omega arith)))) changed
 
       pub solve-values : Grows s.nodes t → OnlyValues now (record s { slots = vs; trail = cs; nodes = t })
       solve-values grows = subst (λ (o : Seen). OnlyValues o (record s { slots = vs; trail = cs; nodes = t })) is (record {
@@ -181,6 +202,48 @@ module _ (now s : Seen) (is : s ≡ now) (st : IsStore now) (f g : ℕ) (a : IsA
         slots = undone-from [] s.slots vs (sym gen.number);
         nodes = grows;
       })
+
+-- the same, where the images were put in by a call
+module _ (now s : Seen) (is : s ≡ now) (st : IsStore now) (f g : ℕ) (a : IsArgument now f) (b : IsArgument now g) (t : Store) (st' : Grows s.nodes t) (images : Images) (gen : AreGeneral s.nodes.triples t.triples s.constants f g images)
+    (new : Seen) (moved : AreMoved t.triples new.nodes.triples images s.slots new.slots) (v : OnlyValues (record s { nodes = t }) new) where
+  general : IsGeneral s.nodes.triples new.nodes.triples s.constants s.slots f g new.slots
+  general = general-at s.nodes t new.nodes st' s.constants s.slots (inside now s is st f g a b).nodes f g images gen new.slots moved
+
+  new-is : record s { slots = new.slots; trail = new.trail; nodes = new.nodes } ≡ new
+  new-is = λ i. record {
+    constants = sym v.constants i;
+    drawn = sym v.drawn i;
+    free = sym v.free i;
+    slots = new.slots;
+    trail = new.trail;
+    nodes = new.nodes;
+  }
+
+  trail-is : new.trail ≡ s.trail ++ changes_from 0 s.slots new.slots
+  trail-is = v.trail ∙ ap (λ cs. s.trail ++ cs) v.listed
+
+  pub put-solved : IsSolved (view_of now) (view_of new) (function_of now.nodes.triples f) (function_of now.nodes.triples g)
+  put-solved = subst (λ (o : Seen). IsSolved (view_of now) (view_of o) (function_of now.nodes.triples f) (function_of now.nodes.triples g)) new-is (solve-solved now s is st f g a b new.slots new.trail new.nodes general)
+
+  pub put-solution : IsSolutionOf (view_of now) (view_of new) (function_of now.nodes.triples f) (function_of now.nodes.triples g)
+  put-solution = subst (λ (o : Seen). IsSolutionOf (view_of now) (view_of o) (function_of now.nodes.triples f) (function_of now.nodes.triples g)) new-is (solve-solution now s is st f g a b new.slots new.trail new.nodes general)
+
+  pub put-same : HasSameValues (view_of now) (view_of new)
+  put-same = subst (λ (o : Seen). HasSameValues (view_of now) (view_of o)) new-is (solve-same now s is st f g a b new.slots new.trail new.nodes general)
+
+  pub put-store : Each (λ c. IsNode new.nodes.triples c.value.0) new.trail → IsStore new
+  put-store changed = subst IsStore new-is (solve-store now s is st f g a b new.slots new.trail new.nodes general trail-is changed)
+
+  pub put-values : OnlyValues now new
+  put-values = subst (λ (o : Seen). OnlyValues now o) new-is (solve-values now s is st f g a b new.slots new.trail new.nodes general trail-is (Grows-then s.nodes t new.nodes st' v.nodes))
+
+-- nodes were added twice
+pub only-then : (now s : Seen) (is : s ≡ now) (st : IsStore now) (t : Store) → Grows s.nodes t → (new : Seen) → OnlyNodes (record s { nodes = t }) new → OnlyNodes now new
+only-then now s is st t g new o = record {
+  same = o.same ∙ ap (λ (p : Seen). record p { nodes = new.nodes }) is;
+  grows = subst (λ (p : Seen). Grows p.nodes new.nodes) is (Grows-then s.nodes t new.nodes g o.grows);
+  arguments = λ n a. o.arguments n ((only-nodes now s is st t g).arguments n a);
+}
 
 -- rewritten values are undone
 pub keeps-values : (old new : Seen) → OnlyValues old new → KeepsMoments old new

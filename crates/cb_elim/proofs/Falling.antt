@@ -9,20 +9,20 @@ use Rattle.cb_ops.specs.Support.{IsListed}
 use Rattle.cb_solution.specs.Solution.{IsFalling}
 use Rattle.cb_solution.proofs.Solved.{listed-here, listed-there, listed-cases}
 
-listed-either : (xs ys : List ℕ) (k : ℕ) → IsListed (xs ++ ys) k → IsListed xs k ⊎ IsListed ys k
+pub listed-either : (xs ys : List ℕ) (k : ℕ) → IsListed (xs ++ ys) k → IsListed xs k ⊎ IsListed ys k
 listed-either xs ys k h = elim (cases_Bool (list_any (nat_eq k) xs)) [
   | inl there ↦ inl there
   | inr other ↦ inr (sym (ap (λ b. b || list_any (nat_eq k) ys) other) ∙ sym (list_any-append (nat_eq k) xs ys) ∙ h)
 ]
 
-listed-left : (xs ys : List ℕ) (k : ℕ) → IsListed xs k → IsListed (xs ++ ys) k
+pub listed-left : (xs ys : List ℕ) (k : ℕ) → IsListed xs k → IsListed (xs ++ ys) k
 listed-left xs ys k h = list_any-append (nat_eq k) xs ys ∙ ap (λ b. b || list_any (nat_eq k) ys) h
 
-listed-right : (xs ys : List ℕ) (k : ℕ) → IsListed ys k → IsListed (xs ++ ys) k
+pub listed-right : (xs ys : List ℕ) (k : ℕ) → IsListed ys k → IsListed (xs ++ ys) k
 listed-right [] ys k h = h
 listed-right (x ∷ xs) ys k h = listed-there x k (xs ++ ys) (listed-right xs ys k h)
 
-listed-one : (x k : ℕ) → IsListed (x ∷ []) k → k ≡ x
+pub listed-one : (x k : ℕ) → IsListed (x ∷ []) k → k ≡ x
 listed-one x k h = elim (listed-cases x k [] h) [ inl same ↦ same | inr none ↦ absurd (true≢false (sym none)) ]
 
 reversed : (x : ℕ) (xs : List ℕ) → reverse (x ∷ xs) ≡ reverse xs ++ x ∷ []

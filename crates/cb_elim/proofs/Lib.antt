@@ -12,6 +12,9 @@ pub mod Known
 pub mod Rooms
 pub mod Expressions
 pub mod Laws
-pub mod Stays
 pub mod Sizes
 mod Added
+mod Covering
+mod Kept
+mod Noting
+mod Live

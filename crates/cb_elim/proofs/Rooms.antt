@@ -4,7 +4,7 @@ use Rattle.std.proofs.lemmas.Bool.{cases_Bool, eqb-true, true≢false}
 use Rattle.std.proofs.lemmas.Nat.{pow_pos}
 use Rattle.std.proofs.Math.Nat.{mul-le-mul_left, mul-le-mul_right}
 use Rattle.std.specs.List.{list_any}
-use Rattle.cb_model.specs.Bits.{put, xor}
+use Rattle.cb_model.specs.Bits.{Bits, put, xor}
 use Rattle.cb_dd.specs.declared.Node.{Node}
 use Rattle.cb_dd.specs.declared.Triple.{Triple}
 use Rattle.cb_dd.specs.declared.Stop.{Stop}
@@ -13,15 +13,17 @@ use Rattle.cb_dd.specs.Diagram.{Store, IsNode, function_of}
 use Rattle.cb_ops.specs.Ops.{Grows, StandsFor, Room, DependsOn}
 use Rattle.cb_ops.specs.Support.{IsListed}
 use Rattle.cb_ops.specs.Substitute.{Images, AreNodes, SubstituteRoom}
-use Rattle.cb_ops.proofs.Ite.{without, without-lt, grown-depends, Grows-then}
+use Rattle.cb_ops.proofs.Ite.{without, without-lt, grown-depends}
 use Rattle.cb_ops.proofs.Substitute.{image-node}
+use Rattle.cb_boole.specs.Elimination.{Function, DependsOnly, solved}
+use Rattle.cb_boole.proofs.Only.{solved_alike}
 use Rattle.cb_boole.proofs.Point.{put_other}
 use Rattle.cb_boole.proofs.Bounds.{four_next}
-use Rattle.cb_solution.specs.Solution.{IsFalling, IsSolution, ImagesWithin, SolutionRoom, has_refused}
-use Rattle.cb_solution.proofs.Solved.{listed-here, listed-there, listed-cases, only-from, solution-within}
+use Rattle.cb_solution.specs.Solution.{IsFalling, ImagesWithin, SolutionRoom, has_refused}
+use Rattle.cb_solution.proofs.Solved.{at-some, image-listed, listed-here, listed-there, listed-cases, only-from, only-into}
 use Rattle.cb_elim.specs.Store.{Seen, IsAsBefore, OnlyNodes, AreThere}
 use Rattle.cb_elim.specs.Unified.{UnifyCause}
-use Rattle.cb_elim.specs.Equation.{DependEach, GeneralRoom, IsElimination, MovedRoom}
+use Rattle.cb_elim.specs.Equation.{AreGeneral, DependEach, GeneralRoom, IsElimination, MovedRoom, SidesRoom, differ}
 
 -- ---- falling levels of a list are no more than the list has
 
@@ -50,10 +52,10 @@ falling-fit (l ∷ levels) ls f h =
     omega arith
 
 -- the levels eliminated are among those on which the function depends
-eliminated-listed : (ts : List Triple) (e constants : ℕ) (levels ls : List ℕ) → IsElimination constants (function_of ts e) levels → DependsOn ts e ls → (l : ℕ) → IsListed levels l → IsListed ls l
-eliminated-listed ts e constants levels ls el d l there = elim (cases_Bool (list_any (nat_eq l) ls)) [
+eliminated-listed : (f : Function) (constants : ℕ) (levels ls : List ℕ) → IsElimination constants f levels → DependsOnly (IsListed ls) f → (l : ℕ) → IsListed levels l → IsListed ls l
+eliminated-listed f constants levels ls el d l there = elim (cases_Bool (list_any (nat_eq l) ls)) [
   | inl listed ↦ listed
-  | inr away ↦ absurd (el.needed l there (λ p b. only-from ts e ls d (put l b p) p (λ j w. put_other p l b j (λ same. true≢false (sym (subst (λ i. IsListed ls i) same w) ∙ away)))))
+  | inr away ↦ absurd (el.needed l there (λ p b. d (put l b p) p (λ j w. put_other p l b j (λ same. true≢false (sym (subst (λ i. IsListed ls i) same w) ∙ away)))))
 ]
 
 -- ---- the values, one after another
@@ -79,13 +81,13 @@ pub record MovedSo (k : ℕ) (ns : List Node) (images : Images) (old new : Store
 pub moved-none : (ns : List Node) (images : Images) (s : Store) → MovedSo 0 ns images s s
 moved-none ns images s = record { most = λ ls d w. omega arith }
 
-pub moved-one : (s t u : Store) (st : Grows s t) (images : Images) (ws : AreNodes s.triples images) (ns : List Node) (there : AreThere s.triples ns) (k : ℕ) (d : Node) → k < length ns →
-    SubstituteRoom (get_or ns k d).0 images t u → MovedSo k ns images s t → MovedSo (k + 1) ns images s u
-moved-one s t u st images ws ns there k d h room before = record {
+pub moved-one : (s t u : Store) (st : Grows s t) (images : Images) (ws : AreNodes s.triples images) (ns : List Node) (there : AreThere s.triples ns) (k x : ℕ) (d : Node) → x < length ns →
+    SubstituteRoom (get_or ns x d).0 images t u → MovedSo k ns images s t → MovedSo (k + 1) ns images s u
+moved-one s t u st images ws ns there k x d h room before = record {
   most = λ ls depend within.
       let b = before.most ls depend within in
       let r = room.most ls ls (record {
-        depends = grown-depends s t st (get_or ns k d).0 ls (node-of s.triples ns d k there h) (depend-at s.triples ns d k ls depend h);
+        depends = grown-depends s t st (get_or ns x d).0 ls (node-of s.triples ns d x there h) (depend-at s.triples ns d x ls depend h);
         covers = λ l w e. w;
         images = λ l m e. grown-depends s t st m.0 ls (image-node s.triples images l m ws e) (within.each l m e);
       }) in
@@ -102,50 +104,65 @@ moved-all k ns images s t h m = record {
 
 -- ---- the whole
 
-room-sum : (x w k n : ℕ) → 0 < x → k ≤ w → 2 * x + k * (5 * x + x * x) + n * (x * x) ≤ 64 * (n + w + 1) * (4 * (x * x))
+room-sum : (x w k n : ℕ) → 0 < x → k ≤ w → 2 * x + k * (5 * x + x * x) + n * (x * x) + 1 ≤ 64 * (n + w + 1) * (4 * (x * x))
 room-sum x w k n pos less =
     let p : x * 1 ≤ x * x = mul-le-mul_left x pos in
     let a : k * (5 * x + x * x) ≤ w * (5 * x + x * x) = mul-le-mul_right (5 * x + x * x) less in
     let b : w * x ≤ w * (x * x) = mul-le-mul_left w (omega arith) in
     omega arith
 
-pub equation-bound : (w k n : ℕ) → k ≤ w → 2 * 2 ^ w + k * (5 * 2 ^ w + 2 ^ w * 2 ^ w) + n * (2 ^ w * 2 ^ w) ≤ 64 * (n + w + 1) * 4 ^ (w + 1)
+pub equation-bound : (w k n : ℕ) → k ≤ w → 2 * 2 ^ w + k * (5 * 2 ^ w + 2 ^ w * 2 ^ w) + n * (2 ^ w * 2 ^ w) + 1 ≤ 64 * (n + w + 1) * 4 ^ (w + 1)
 equation-bound w k n less =
-    subst (λ z. 2 * 2 ^ w + k * (5 * 2 ^ w + 2 ^ w * 2 ^ w) + n * (2 ^ w * 2 ^ w) ≤ 64 * (n + w + 1) * z) (sym (four_next w)) (room-sum (2 ^ w) w k n (pow_pos w) less)
+    subst (λ z. 2 * 2 ^ w + k * (5 * 2 ^ w + 2 ^ w * 2 ^ w) + n * (2 ^ w * 2 ^ w) + 1 ≤ 64 * (n + w + 1) * z) (sym (four_next w)) (room-sum (2 ^ w) w k n (pow_pos w) less)
 
-module _ (s t u v : Store) (st : Grows s t) (tu : Grows t u) (ns : List Node) (there : AreThere s.triples ns) (f g e : ℕ) (first : Room (f ∷ g ∷ []) 2 s t) where
+module _ (s t u : Store) (st : Grows s t) (tu : Grows t u) (f g e : ℕ) (first : Room (f ∷ g ∷ []) 2 s t) where
+  pub sides-first : SidesRoom f g s t
+  sides-first = record { most = λ ls df dg. let m = first.most ls (df, (dg, tt)) in omega arith }
+
+  module _ (is : StandsFor t.triples e (λ a. xor (function_of s.triples f a) (function_of s.triples g a))) (constants : ℕ) (levels : List ℕ) (el : IsElimination constants (function_of t.triples e) levels) (second : SolutionRoom e levels t u) where
+    pub sides-second : SidesRoom f g s u
+    sides-second = record {
+      most = λ ls df dg.
+          let d : DependsOn t.triples e ls = record { agrees = λ a b h. is.at a ∙ ap₂ xor (df.agrees a b h) (dg.agrees a b h) ∙ sym (is.at b) } in
+          let m = first.most ls (df, (dg, tt)) in
+          let within = eliminated-listed (function_of t.triples e) constants levels ls el (only-from t.triples e ls d) in
+          let n = second.most ls d within in
+          let r : length levels * (5 * 2 ^ length ls + 2 ^ length ls * 2 ^ length ls) ≤ length ls * (5 * 2 ^ length ls + 2 ^ length ls * 2 ^ length ls)
+          = mul-le-mul_right (5 * 2 ^ length ls + 2 ^ length ls * 2 ^ length ls) (falling-fit levels ls el.falls within) in
+          omega arith;
+    }
+
+module _ (s t u : Store) (st : Grows s t) (ns : List Node) (there : AreThere s.triples ns) (f g : ℕ) (first : SidesRoom f g s t) where
   pub general-first : GeneralRoom ns f g s t
   general-first = record {
     most = λ ls df dg dn.
-        let m = first.most ls (df, (dg, tt)) in
-        let b = equation-bound (length ls) 0 (length ns) (omega arith) in
+        let m = first.most ls df dg in
+        let b = equation-bound (length ls) (length ls) (length ns) (omega arith) in
         omega arith;
   }
 
-  module _ (is : StandsFor t.triples e (λ a. xor (function_of s.triples f a) (function_of s.triples g a))) (constants : ℕ) (levels : List ℕ) (el : IsElimination constants (function_of t.triples e) levels) (second : SolutionRoom e levels t u) where
-    equation-depends : (ls : List ℕ) → DependsOn s.triples f ls → DependsOn s.triples g ls → DependsOn t.triples e ls
-    equation-depends ls df dg = record { agrees = λ a b h. is.at a ∙ ap₂ xor (df.agrees a b h) (dg.agrees a b h) ∙ sym (is.at b) }
+  -- the images depend on the levels of the two sides alone
+  images-within : (images : Images) (constants : ℕ) → AreGeneral s.triples t.triples constants f g images → (ls : List ℕ) → DependsOn s.triples f ls → DependsOn s.triples g ls → ImagesWithin t.triples images ls
+  images-within images constants gen ls df dg = record {
+    each = λ l m e. only-into t.triples m.0 ls (λ p. solved gen.levels (differ s.triples f g) p l)
+        (record { at = λ p. sym (at-some t.triples images p l m e) ∙ ap (λ (q : Bits). q l) (gen.at p) })
+        (λ p q h. solved_alike (IsListed ls) gen.levels (differ s.triples f g) only p q h l (within l (gen.within l (image-listed images l m e))));
+  }
+    where
+      only : DependsOnly (IsListed ls) (differ s.triples f g)
+      only p q h = ap₂ xor (only-from s.triples f ls df p q h) (only-from s.triples g ls dg p q h)
 
-    pub general-second : GeneralRoom ns f g s u
-    general-second = record {
-      most = λ ls df dg dn.
-          let m = first.most ls (df, (dg, tt)) in
-          let within = eliminated-listed t.triples e constants levels ls el (equation-depends ls df dg) in
-          let n = second.most ls (equation-depends ls df dg) within in
-          let b = equation-bound (length ls) (length levels) (length ns) (falling-fit levels ls el.falls within) in
-          omega arith;
-    }
+      within : (l : ℕ) → IsListed gen.levels l → IsListed ls l
+      within = eliminated-listed (differ s.triples f g) constants gen.levels ls gen.elimination only
 
-    pub general-third : (images : Images) → IsSolution t.triples u.triples e levels images → MovedRoom ns images u v → GeneralRoom ns f g s v
-    general-third images sol third = record {
-      most = λ ls df dg dn.
-          let m = first.most ls (df, (dg, tt)) in
-          let within = eliminated-listed t.triples e constants levels ls el (equation-depends ls df dg) in
-          let n = second.most ls (equation-depends ls df dg) within in
-          let o = third.most ls (depend-still s u (Grows-then s t u st tu) ns there ls dn) (solution-within t.triples u.triples e levels images sol ls (equation-depends ls df dg) within) in
-          let b = equation-bound (length ls) (length levels) (length ns) (falling-fit levels ls el.falls within) in
-          omega arith;
-    }
+  pub general-second : (images : Images) (constants : ℕ) → AreGeneral s.triples t.triples constants f g images → MovedRoom ns images t u → GeneralRoom ns f g s u
+  general-second images constants gen second = record {
+    most = λ ls df dg dn.
+        let m = first.most ls df dg in
+        let n = second.most ls (depend-still s t st ns there ls dn) (images-within images constants gen ls df dg) in
+        let b = equation-bound (length ls) (length ls) (length ns) (omega arith) in
+        omega arith;
+  }
 
 -- what was cut away adds nothing
 pub room-none : (ns : List Node) (f g : ℕ) (old new : Store) → length new.triples ≤ length old.triples → GeneralRoom ns f g old new

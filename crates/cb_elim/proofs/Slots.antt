@@ -11,6 +11,8 @@ use Rattle.cb_dd.specs.Diagram.{Store, IsNode, function_of}
 use Rattle.cb_ops.specs.Ops.{Grows, StandsFor}
 use Rattle.cb_boole.specs.Elimination.{Function}
 use Rattle.cb_boole.specs.View.{View, IsGood, IsFit, InRange, point, with_at, with_slot, with_variable}
+use Rattle.cb_boole.specs.Form.{IsForm}
+use Rattle.cb_boole.proofs.Form.{form_variables, form_with_slot, form_with_variable}
 use Rattle.cb_boole.proofs.Grow.{with_same, with_other, good_with_slot, fit_with_slot, good_with_variable, fit_with_variable, good_variables, range_new, range_old}
 use Rattle.cb_elim.specs.declared.Free.{Free}
 use Rattle.cb_elim.specs.declared.Change.{Change}
@@ -59,11 +61,13 @@ pub store-held : (s : Seen) (f : Node) → IsStore s → IsArgument s f.0 → Is
 unfolding view_of
 store-held s f st a = record {
   good = subst IsGood (sym (view-held s f)) (good_with_slot (view_of s) st.good (length s.slots) (function_of s.nodes.triples f.0) (no-slot s st) a.fit);
+  form = subst IsForm (sym (view-held s f)) (form_with_slot (view_of s) st.good st.form (length s.slots) (function_of s.nodes.triples f.0) (no-slot s st));
   slots = λ x h. let w : x < length s.slots = st.slots x h in omega (arith, length-append s.slots (f ∷ []));
   levels = st.levels;
   constants = st.constants;
   nodes = there-more s.nodes.triples s.slots f st.nodes a.node;
   trail = wider s.trail (length s.slots) (length (s.slots ++ f ∷ [])) (omega (arith, length-append s.slots (f ∷ []))) st.trail;
+  changed = st.changed;
 }
 
 pub held-argument : (s : Seen) (f : Node) → IsStore s → (n : ℕ) → IsArgument s n → IsArgument (record s { slots = s.slots ++ f ∷ [] }) n
@@ -193,6 +197,8 @@ module _ (s : Seen) (n : Node) (st : IsStore s) (w : IsNode s.nodes.triples n.0)
   store-new = record {
     good = subst IsGood (sym view-new) (good_variables (with_variable (view_of s) s.drawn (length s.slots)) (IsVariableOf (s.free ++ record { level = s.drawn; slot = length s.slots } ∷ []))
         (good_with_variable (view_of s) st.good s.drawn (length s.slots) (no-slot s st) (unused s st) above) (λ y h. variable-into s.drawn (length s.slots) s.free y h));
+    form = subst IsForm (sym view-new) (form_variables (with_variable (view_of s) s.drawn (length s.slots)) (IsVariableOf (s.free ++ record { level = s.drawn; slot = length s.slots } ∷ []))
+        (form_with_variable (view_of s) st.good st.form s.drawn (length s.slots) (no-slot s st) (unused s st)));
     slots = λ y h. elim (variable-from s.drawn (length s.slots) s.free y h) [
       | inl old ↦ let r : y < length s.slots = st.slots y old in omega (arith, length-append s.slots (n ∷ []))
       | inr e ↦ omega (arith, length-append s.slots (n ∷ []))
@@ -204,6 +210,7 @@ module _ (s : Seen) (n : Node) (st : IsStore s) (w : IsNode s.nodes.triples n.0)
     constants = let c : s.constants ≤ s.drawn = st.constants in omega arith;
     nodes = there-more s.nodes.triples s.slots n st.nodes w;
     trail = wider s.trail (length s.slots) (length (s.slots ++ n ∷ [])) (omega (arith, length-append s.slots (n ∷ []))) st.trail;
+    changed = st.changed;
   }
 
   pub range-new : HasSameRange (view_of s) (view_of (with_new s n))

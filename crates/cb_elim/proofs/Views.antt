@@ -1,15 +1,18 @@
 -- A store stays one when nodes are added.
 use Rattle.std.proofs.Common.{◌≡◌, ℕ, zero, suc, ◌<◌, Bool, List, [], ◌∷◌, length, get_or, Some, None, refl, sym, ap, subst, arith}
 use Rattle.std.proofs.Math.Path.{fun_ext}
-use Rattle.cb_model.specs.Bits.{Bits}
+use Rattle.cb_model.specs.Bits.{Bits, Each}
 use Rattle.cb_dd.specs.declared.Node.{Node}
 use Rattle.cb_dd.specs.declared.Triple.{Triple}
 use Rattle.cb_dd.specs.Diagram.{Store, IsNode, function_of}
 use Rattle.cb_ops.specs.Ops.{Grows, StandsFor}
 use Rattle.cb_ops.proofs.Ite.{grown-function, grown-node}
 use Rattle.cb_boole.specs.Elimination.{Function}
+use Rattle.cb_boole.specs.Form.{IsForm}
 use Rattle.cb_boole.specs.View.{View, IsGood, IsFit}
+use Rattle.cb_boole.proofs.Form.{form_empty}
 use Rattle.cb_boole.proofs.Grow.{fit_constant, fit_two}
+use Rattle.cb_elim.specs.declared.Change.{Change}
 use Rattle.cb_elim.specs.Store.{Seen, IsStore, IsArgument, OnlyNodes, AreThere, IsVariableOf, stands_in, value_in, view_of, with_fulls, empty}
 
 -- the view with these values
@@ -25,6 +28,10 @@ pub there-still : (s t : Store) → Grows s t → (ns : List Node) → AreThere 
 there-still s t g [] h = tt
 there-still s t g (n ∷ ns) h = (grown-node s t g n.0 h.0, there-still s t g ns h.1)
 
+pub changed-still : (s t : Store) → Grows s t → (cs : List Change) → Each (λ c. IsNode s.triples c.value.0) cs → Each (λ c. IsNode t.triples c.value.0) cs
+changed-still s t g [] h = tt
+changed-still s t g (c ∷ cs) h = (grown-node s t g c.value.0 h.0, changed-still s t g cs h.1)
+
 pub view-still : (s : Seen) (t : Store) → Grows s.nodes t → AreThere s.nodes.triples s.slots → view_of (record s { nodes = t }) ≡ view_of s
 unfolding view_of
 view-still s t g h = ap (λ (v : ℕ → Function). with_values s v) (fun_ext (λ x. value-still s.nodes t g s.slots h x))
@@ -32,11 +39,13 @@ view-still s t g h = ap (λ (v : ℕ → Function). with_values s v) (fun_ext (�
 pub store-still : (s : Seen) (t : Store) → IsStore s → Grows s.nodes t → IsStore (record s { nodes = t })
 store-still s t st g = record {
   good = subst IsGood (sym (view-still s t g st.nodes)) st.good;
+  form = subst IsForm (sym (view-still s t g st.nodes)) st.form;
   slots = st.slots;
   levels = st.levels;
   constants = st.constants;
   nodes = there-still s.nodes t g s.slots st.nodes;
   trail = st.trail;
+  changed = changed-still s.nodes t g s.trail st.changed;
 }
 
 pub argument-still : (s : Seen) (t : Store) → IsStore s → Grows s.nodes t → (n : ℕ) → IsArgument s n → IsArgument (record s { nodes = t }) n
@@ -49,7 +58,7 @@ argument-still s t st g n a = record {
 -- the count of refusals says nothing of the store
 pub store-fulls : (n : ℕ) (s : Seen) → IsStore s → IsStore (with_fulls n s)
 unfolding view_of
-store-fulls n s st = record { good = st.good; slots = st.slots; levels = st.levels; constants = st.constants; nodes = st.nodes; trail = st.trail }
+store-fulls n s st = record { good = st.good; form = st.form; slots = st.slots; levels = st.levels; constants = st.constants; nodes = st.nodes; trail = st.trail; changed = st.changed }
 
 pub argument-fulls : (n : ℕ) (s : Seen) (f : ℕ) → IsArgument s f → IsArgument (with_fulls n s) f
 unfolding view_of
@@ -92,11 +101,13 @@ empty-store constants budget = record {
     single = λ k l x e d. absurd (let d : None ≡ Some x = e in cc);
     fit = λ x. record { only = λ p q h. refl; kept = λ p. refl };
   };
+  form = form_empty (view_of (empty constants budget)) (λ l x e. let d : None ≡ Some x = e in cc);
   slots = λ x h. absurd h;
   levels = λ l x e. absurd (let d : None ≡ Some x = e in cc);
   constants = omega arith;
   nodes = tt;
   trail = tt;
+  changed = tt;
 }
 
 -- the value of a slot

@@ -1,5 +1,5 @@
 -- Laws of the store: each is the contract of a function that does nothing.
-use Rattle.std.specs.Prelude.{◌≡◌, ◌↔◌, ℕ, List, [], ◌∷◌, ◌++◌, map}
+use Rattle.std.specs.Prelude.{◌≡◌, ◌↔◌, ℕ, zero, suc, List, [], ◌∷◌, ◌++◌, map}
 use Rattle.cb_model.specs.declared.Expr.{Expr}
 use Rattle.cb_model.specs.Bits.{Bits, Each}
 use Rattle.cb_model.specs.Values.{World, expr_value}
@@ -32,3 +32,12 @@ SolvedIsSolvable = (w : World) (s t : Seen) (es : List Equal) (f g : ℕ) → Is
 abbrev pub NoneIsRefuted : Type 0
 NoneIsRefuted = (w : World) (s : Seen) (es : List Equal) (e : Equal) (f g : ℕ) → IsRangeOf s es → IsNodeOf s f e.0 → IsNodeOf s g e.1 →
     HasNone (view_of s) (function_of s.nodes.triples f) (function_of s.nodes.triples g) → Refuted w (map pair_item (es ++ e ∷ []))
+
+-- the numbers below, the greatest first
+abbrev pub levels_below : ℕ → List ℕ
+levels_below zero = []
+levels_below (suc n) = n ∷ levels_below n
+
+-- the levels of the constants, and the free levels
+abbrev pub live_levels : Seen → List ℕ
+live_levels s = levels_below s.constants ++ map (λ f. f.level) s.free

@@ -5,3 +5,4 @@ pub mod Unified
 pub mod Expression
 pub mod Laws
 pub mod Lending
+pub mod Watch

@@ -65,3 +65,7 @@ abbrev pub changes_from : ℕ → List Node → List Node → List Change
 changes_from k [] vs = []
 changes_from k (n ∷ ns) [] = []
 changes_from k (n ∷ ns) (v ∷ vs) = if nat_eq n.0 v.0 then changes_from (suc k) ns vs else record { slot = k; value = n } ∷ changes_from (suc k) ns vs
+
+-- the change of one slot, if its value changes
+abbrev pub change_at : ℕ → Node → Node → List Change
+change_at k n v = if nat_eq n.0 v.0 then [] else record { slot = k; value = n } ∷ []

@@ -6,6 +6,7 @@ use Rattle.cb_dd.specs.declared.Node.{Node}
 use Rattle.cb_dd.specs.Diagram.{Store, IsNode, function_of}
 use Rattle.cb_ops.specs.Ops.{Grows}
 use Rattle.cb_boole.specs.Elimination.{Function}
+use Rattle.cb_boole.specs.Form.{IsForm}
 use Rattle.cb_boole.specs.View.{View, IsGood, IsFit, InRange, point}
 use Rattle.cb_elim.specs.declared.Free.{Free}
 use Rattle.cb_elim.specs.declared.Change.{Change}
@@ -63,11 +64,13 @@ AreThere ts ns = Each (λ n. IsNode ts n.0) ns
 -- what holds of a store at every call
 pub record IsStore (s : Seen) : Type 0 where
   pub good : IsGood (view_of s)
+  pub form : IsForm (view_of s)
   pub slots : (x : ℕ) → IsVariableOf s.free x → x < length s.slots
   pub levels : (l x : ℕ) → stands_in s.free l ≡ Some x → l < s.drawn
   pub constants : s.constants ≤ s.drawn
   pub nodes : AreThere s.nodes.triples s.slots
   pub trail : Each (λ c. c.slot < length s.slots) s.trail
+  pub changed : Each (λ c. IsNode s.nodes.triples c.value.0) s.trail
 
 -- The condition on a node that is handed to the store. It depends on constants and free levels alone, and its value
 -- stays the same where each free level gets the bit which the slot of its variable has.

@@ -16,23 +16,26 @@ ghost use Rattle.cb_elim.specs.Store.{Seen, AddsSlot, IsStore, IsArgument, IsAsB
 ghost use Rattle.cb_model.specs.Values.{expr_value, in_scope};
 ghost use Rattle.std.specs.Borrow.{sem};
 ghost use Rattle.cb_elim.specs.Lending.{LendsOps};
-ghost use Rattle.cb_elim.specs.Laws.{NoneIsRefuted, RangeGrows, SolvedIsSolvable};
-ghost use Rattle.cb_elim.specs.Expression.{ExprCause, ExprRoom, variable_bits};
-ghost use Rattle.cb_elim.specs.Equation.{GeneralRoom};
+ghost use Rattle.cb_elim.specs.Laws.{NoneIsRefuted, RangeGrows, SolvedIsSolvable, live_levels};
+ghost use Rattle.cb_elim.specs.Expression.{AreLevels, ExprCause, ExprRoom, variable_bits};
+ghost use Rattle.cb_elim.specs.Equation.{AreMoved, GeneralRoom, MovedRoom};
+ghost use Rattle.cb_ops.specs.Support.{IsListed};
 ghost use Rattle.cb_elim.specs.Unified.{HasCause, HasNone, HasSameValues, IsMostGeneral, IsReproductive, IsSolutionOf, IsSolved, OnlyValues, UnifyCause};
 ghost use Rattle.cb_elim.specs.Moments.{Moment, IsMoment, KeepsMoments, changes_from, moment_of, reverted, rewritten_since, undone, value_since};
 
 mod equation;
 mod expression;
+mod watch;
 
 use cb_dd::{DdMark, Node, Stop};
 use cb_model::Expr;
 use cb_ops::Ops;
-use cb_trail::Trail;
+use cb_trail::{Trail, Uses};
 use equation::most_general;
 use expression::expression;
 use std::alloc::{AllocError, Global};
 use std::marker::Model;
+use watch::{dependents, note, rewrite, watch};
 
 /// A slot of a store, by its number. A variable's number is that of its slot.
 #[derive(Clone, Copy, PartialEq, Eq, Debug)]
@@ -63,14 +66,20 @@ pub struct Store {
     free: Vec<Free>,
     slots: Vec<Node>,
     trail: Trail<Change>,
+    // Which slots may depend on which free level, if the operations were not lent since it was noted.
+    uses: Uses,
+    lent: bool,
 }
 
 impl Model for Store {
     ghost use Rattle.cb_elim.specs.Store.{Seen};
+    ghost use Rattle.cb_elim.specs.Watch.{IsWatched};
 
     ghost Value = { Seen };
 
     ghost view = { λ s. record { constants = s.constants; drawn = s.drawn; free = s.free.items; slots = s.slots.items; trail = s.trail; nodes = s.ops } };
+
+    ghost invariant = { λ s. IsWatched s.lent s.ops.triples s.constants s.slots.items s.trail s.uses };
 }
 
 /// A moment of a store, to which `undo` goes back.
@@ -107,6 +116,8 @@ impl Store {
             free: Vec::new(alloc),
             slots: Vec::new(alloc),
             trail: Trail::new(alloc),
+            uses: Uses::new(alloc),
+            lent: false,
         })
     }
 
@@ -124,6 +135,13 @@ impl Store {
         self.drawn
     }
 
+    /// The free levels with their variables, in the order of making.
+    pub fn free(&self) -> &[Free]
+        ensures { result.now ≡ self.now.free }
+    {
+        &self.free
+    }
+
     /// The operations, for reading.
     pub fn read(&self) -> &Ops
         ensures { result.now ≡ self.now.nodes }
@@ -137,6 +155,7 @@ impl Store {
         ensures* writes_back { sem 𝓛 (LendsOps self.entry result) }
         ensures value { result.now ≡ self.old.nodes }
     {
+        self.lent = true;
         &mut self.ops
     }
 
@@ -211,6 +230,15 @@ impl Store {
         ensures store { IsStore self.new }
     {
         let slot = self.slots.len();
+        note(
+            &self.ops,
+            self.constants,
+            &mut self.uses,
+            Node::ZERO,
+            f,
+            slot,
+            0,
+        )?;
         self.slots.push(f)?;
         Ok(Slot(slot))
     }
@@ -245,6 +273,7 @@ impl Store {
         self.free.truncate(to.free);
         self.drawn = to.drawn;
         self.ops.cut(to.nodes);
+        self.uses.cut(to.slots, to.trail);
     }
 
     /// The k-th, from 0, of the slots that equations rewrote since the moment and no undo has taken back, in order of
@@ -324,6 +353,18 @@ impl Store {
         let level = self.drawn;
         let slot = self.slots.len();
         let node = self.ops.node(level, Node::ZERO, Node::ONE)?;
+        let Ok(()) = note(
+            &self.ops,
+            self.constants,
+            &mut self.uses,
+            Node::ZERO,
+            node,
+            slot,
+            0,
+        ) else {
+            self.ops.cut(before);
+            return Err(Stop::Memory);
+        };
         if self.slots.push(node).is_err() {
             self.ops.cut(before);
             return Err(Stop::Memory);
@@ -393,47 +434,62 @@ impl Store {
         ensures fulls { self.new.nodes.fulls ≡ has_refused self.old.nodes.fulls result }
     {
         let alloc = *self.slots.allocator();
-        let found = most_general(alloc, &mut self.ops, self.constants, &self.slots, f, g)?;
-        let Some(values) = found else {
+        let found = most_general(alloc, &mut self.ops, self.constants, f, g)?;
+        let Some(images) = found else {
             return Ok(false);
         };
-        remember(&mut self.trail, &self.slots, &values)?;
-        self.slots = values;
+        self.put_in(&images)?;
         Ok(true)
     }
-}
 
-// Adds to the trail each slot whose value changes, with the value that it has. After a refusal the trail is as before.
-fn remember(trail: &mut Trail<Change>, slots: &[Node], values: &[Node]) -> Result<(), Stop>
-    requires { length slots.now ≡ length values.now }
-    ensures changes { OnOk result (trail.new ≡ trail.old ++ changes_from 0 slots.now values.now) }
-    ensures refused { OnErr result (trail.new ≡ trail.old) }
-    ensures memory { result ≡ Err Stop.Nodes → ⊥ }
-{
-    let start = trail.mark();
-    for (i, value) in values.iter().enumerate() {
-        let old = slots[i];
-        if old.0 == value.0 {
-            continue;
-        }
-        let change = Change {
-            slot: i,
-            value: old,
-        };
-        if trail.push(change).is_err() {
-            take_back(trail, start);
+    // Puts the images into the values of all slots. After a stop the slots and the trail are as before.
+    fn put_in(&mut self, images: &[(u32, Node)]) -> Result<(), Stop>
+        requires store { IsStore self.old }
+        requires nodes { AreNodes self.old.nodes.triples images.now }
+        requires rise { IsStrictlyIncreasing (map (λ p. p.0) images.now) }
+        requires free { (l : ℕ) → IsListed (map (λ i. i.0) images.now) l → self.old.constants ≤ l }
+        ensures moved { OnOk result (AreMoved self.old.nodes.triples self.new.nodes.triples images.now self.old.slots self.new.slots) }
+        ensures values { OnOk result (OnlyValues self.old self.new) }
+        ensures changed { OnOk result (Each (λ c. IsNode self.new.nodes.triples c.value.0) self.new.trail) }
+        ensures only_nodes { OnErr result (OnlyNodes self.old self.new) }
+        ensures room { MovedRoom self.old.slots images.now self.old.nodes self.new.nodes }
+        ensures full { result ≡ Err Stop.Nodes → length self.new.nodes.triples ≡ self.new.nodes.budget }
+        ensures fulls { self.new.nodes.fulls ≡ has_refused self.old.nodes.fulls result }
+    {
+        let alloc = *self.slots.allocator();
+        let Ok(()) = watch(
+            alloc,
+            &self.ops,
+            self.constants,
+            &self.slots,
+            &self.trail,
+            &mut self.uses,
+            self.lent,
+        ) else {
             return Err(Stop::Memory);
+        };
+        self.lent = false;
+        let Ok(at) = dependents(alloc, &self.uses, images, self.slots.len()) else {
+            return Err(Stop::Memory);
+        };
+        let start = self.trail.mark();
+        match rewrite(
+            &mut self.ops,
+            self.constants,
+            &mut self.slots,
+            &mut self.trail,
+            &mut self.uses,
+            images,
+            at.as_slice(),
+        ) {
+            Ok(()) => Ok(()),
+            Err(stop) => {
+                restore(&mut self.trail, &mut self.slots, start);
+                self.uses.cut(self.slots.len(), start);
+                Err(stop)
+            }
         }
     }
-    Ok(())
-}
-
-// Takes back all changes past the mark.
-fn take_back(trail: &mut Trail<Change>, start: u64)
-    requires { start ≤ length trail.old }
-    ensures { trail.new ≡ take start trail.old }
-{
-    'back: while let Some(_) = trail.undo_next(start) {}
 }
 
 // Gives the slots the values that they had at the mark, and takes back the changes past it.
@@ -469,6 +525,12 @@ pub fn range_is_of_the_equations()
     ensures grows { RangeGrows }
     ensures solvable { SolvedIsSolvable }
     ensures refuted { NoneIsRefuted }
+{}
+
+/// The values of the slots depend on the levels of the constants and the free levels alone. So a bound over the levels on
+/// which the slots depend holds with as many as there are constants and variables.
+pub fn values_depend_on_live_levels()
+    ensures { (s : Seen) → IsStore s → AreLevels s.nodes.triples s.constants s.slots (live_levels s) }
 {}
 
 /// A store to which nodes alone were added is one, each node that could be handed to it still can, and each moment is

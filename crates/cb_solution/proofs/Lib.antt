@@ -1,3 +1,4 @@
 pub mod Steps
 pub mod Solved
 mod Loops
+pub mod Gathered

@@ -113,14 +113,14 @@ module _ (ts : List Triple) (is : IsDiagram ts) where
 
 -- ---- the images at an assignment
 
-cases-image : (o : Option Node) → ((m : Node) × (o ≡ Some m)) ⊎ (o ≡ None)
+pub cases-image : (o : Option Node) → ((m : Node) × (o ≡ Some m)) ⊎ (o ≡ None)
 cases-image (Some m) = inl (m, refl)
 cases-image None = inr refl
 
-at-some : (ts : List Triple) (list : Images) (a : Bits) (l : ℕ) (m : Node) → image_of list l ≡ Some m → substituted ts list a l ≡ function_of ts m.0 a
+pub at-some : (ts : List Triple) (list : Images) (a : Bits) (l : ℕ) (m : Node) → image_of list l ≡ Some m → substituted ts list a l ≡ function_of ts m.0 a
 at-some ts list a l m e = ap (λ o. option_map_or (λ n. function_of ts n.0 a) o (a l)) e
 
-at-none : (ts : List Triple) (list : Images) (a : Bits) (l : ℕ) → image_of list l ≡ None → substituted ts list a l ≡ a l
+pub at-none : (ts : List Triple) (list : Images) (a : Bits) (l : ℕ) → image_of list l ≡ None → substituted ts list a l ≡ a l
 at-none ts list a l e = ap (λ o. option_map_or (λ n. function_of ts n.0 a) o (a l)) e
 
 -- ---- one level more
@@ -144,7 +144,7 @@ image-last (x ∷ xs) l n k e = elim (cases_Bool (nat_eq k x.0)) [
 ]
 
 -- a level with an image is among the images' levels
-image-listed : (xs : Images) (k : ℕ) (m : Node) → image_of xs k ≡ Some m → IsListed (map (λ i. i.0) xs) k
+pub image-listed : (xs : Images) (k : ℕ) (m : Node) → image_of xs k ≡ Some m → IsListed (map (λ i. i.0) xs) k
 image-listed [] k m e = absurd (let d : None ≡ Some m = e in cc)
 image-listed (x ∷ xs) k m e = elim (cases_Bool (nat_eq k x.0)) [
   | inl same ↦ ap (λ b. b || list_any (nat_eq k) (map (λ i. i.0) xs)) same

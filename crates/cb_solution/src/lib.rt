@@ -9,6 +9,10 @@ ghost use Rattle.cb_ops.specs.Substitute.{AreNodes};
 ghost use Rattle.cb_boole.specs.Elimination.{both, rest};
 ghost use Rattle.cb_solution.specs.Solution.{AreRests, IsFalling, IsImage, IsSolution, HasRest, ImageRoom, ImagesRoom, RestsRoom, SolutionRoom, has_refused};
 
+mod pairs;
+
+pub use pairs::differ;
+
 use cb_dd::{Node, Stop};
 use cb_ops::Ops;
 use std::alloc::Global;

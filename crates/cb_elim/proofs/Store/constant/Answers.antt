@@ -4,6 +4,7 @@ use Rattle.cb_elim.proofs.Sizes.{one-cause, stopped}
 use Rattle.cb_dd.proofs.Children.{bottom_child, top_child}
 use Rattle.cb_ops.proofs.Ite.{literal-is}
 use Rattle.cb_elim.proofs.Inside.{seen}
+use Rattle.cb_elim.proofs.Kept.{watched-grown}
 use Rattle.cb_elim.proofs.Views.{only-nodes, store-grown, constant-argument}
 use Rattle.cb_elim.proofs.Back.{keeps-nodes}
 use Rattle.cb_elim.proofs.Store.constant.Goals as goal
@@ -44,3 +45,6 @@ pub returns-in_err-n-clause-cause : goal.returns-in_err-n-clause-cause
 returns-in_err-n-clause-cause c =
     let p = err_from_is_err_and c.from_residual.result c.from_residual.ensures.1 in
     rw (p.1, p.2) (λ e. one-cause c.args.self.now (seen c.self.inside) c.self.view_is c.node.new.self (c.in_err-n.ensures.nodes (cc e)).full (stopped _ c.self.inside.ops.fulls c.in_err-n.field-0.0 c.in_err-n.ensures.fulls (cc e)))
+
+pub invariant_of-self-2 : goal.invariant_of-self-2
+invariant_of-self-2 c = watched-grown c.args.self.now (seen c.self.inside) c.self.view_is c.requires.store c.self.inside.lent c.self.inside.uses c.node.new.self c.node.ensures.grows c.self.invariant

@@ -1,6 +1,7 @@
 use Rattle.std.proofs.Common.{length}
 use Rattle.cb_elim.proofs.Sizes.{expr-room, cut-cause, room-as-before, stopped}
 use Rattle.cb_elim.proofs.Inside.{seen}
+use Rattle.cb_elim.proofs.Kept.{watched-grown}
 use Rattle.cb_elim.proofs.Views.{only-nodes, store-grown}
 use Rattle.cb_elim.proofs.Back.{keeps-nodes}
 use Rattle.cb_elim.proofs.Equations.{keeps-before, nodes-cut, only-before, store-before}
@@ -43,3 +44,6 @@ pub returns-in-Err-clause-cause : goal.returns-in-Err-clause-cause
 returns-in-Err-clause-cause c = λ e.
     cut-cause c.args.self.now (seen c.self.inside) c.self.view_is c.expression.new.ops (length c.args.vars.now) c.args.e.now c.cut.new.self c.expression.ensures.grows c.requires.scope
     (rw c.deref.ensures.value at c.expression.ensures.room) c.in-Err.ensures.some (c.in-Err.ensures.full e) (stopped _ c.self.inside.ops.fulls c.in-Err.stop c.in-Err.ensures.fulls e) c.cut.ensures.fulls
+
+pub invariant_of-self : goal.invariant_of-self
+invariant_of-self c = watched-grown c.args.self.now (seen c.self.inside) c.self.view_is c.requires.store c.self.inside.lent c.self.inside.uses c.expression.new.ops c.expression.ensures.grows c.self.invariant

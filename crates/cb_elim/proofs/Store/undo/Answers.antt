@@ -1,8 +1,9 @@
 use Rattle.std.proofs.Common.{◌≡◌, take, drop, subst, sym, ◌∙◌, arith}
 use Rattle.std.proofs.lemmas.Grind.{common_steps}
 use Rattle.cb_elim.specs.Store.{Seen, IsStore}
-use Rattle.cb_elim.specs.Moments.{Moment, undone}
+use Rattle.cb_elim.specs.Moments.{Moment, IsMoment, undone}
 use Rattle.cb_elim.proofs.Inside.{seen}
+use Rattle.cb_elim.proofs.Kept.{watched-undo}
 use Rattle.cb_elim.proofs.Back.{undo-is, back-to, keeps-back}
 use Rattle.cb_elim.proofs.Store.undo.Goals as goal
 
@@ -21,3 +22,10 @@ returns-clause-back c = λ s st e k. returns-clause-reverted c ∙ back-to s c.a
 
 pub returns-clause-moments : goal.returns-clause-moments
 returns-clause-moments c = λ s st e k. keeps-back s c.args.self.now _ c.args.to (returns-clause-reverted c) st e k
+
+pub invariant_of-self : goal.invariant_of-self
+invariant_of-self c =
+    let m : Moment = record { nodes = c.to.inside.nodes; drawn = c.to.inside.drawn; free = c.to.inside.free; slots = c.to.inside.slots; trail = c.to.inside.trail } in
+    let slots : c.truncate.new.self.items ≡ take c.to.inside.slots (undone (drop c.to.inside.trail c.self.inside.trail) c.self.inside.slots.items) = grind (arith, common_steps) in
+    watched-undo c.args.self.now (seen c.self.inside) c.self.view_is c.requires.store c.self.inside.lent c.self.inside.uses m (subst (λ (n : Moment). IsMoment n c.args.self.now) (sym c.to.view_is) c.requires.moment) c.restore.new.trail c.restore.ensures.trail
+    c.truncate.new.self.items slots c.cut-2.new.self c.cut-2.ensures c.cut.new.self c.cut.ensures.triples c.self.invariant

@@ -4,6 +4,7 @@ use Rattle.cb_dd.specs.declared.Stop.{Stop}
 use Rattle.cb_solution.specs.Solution.{has_refused}
 use Rattle.cb_elim.proofs.Rooms.{room-before, room-none, unify-cause}
 use Rattle.cb_elim.proofs.Inside.{seen}
+use Rattle.cb_elim.proofs.Kept.{watched-refused}
 use Rattle.cb_elim.proofs.Equations.{same-slots, same-values, same-solution, same-solved, keeps-values, keeps-before, store-before, cut-before, not-true, stop-not-true}
 use Rattle.cb_elim.proofs.Store.unify.Goals as goal
 
@@ -65,3 +66,19 @@ returns-in-Err-clause-room c =
     room-before c.args.self.now _ c.args.f.0 c.args.g.0
     (cut-before c.args.self.now c.solve.new.self (seen c.self-2.inside) c.self-2.view_is (c.in-Err.ensures.only_nodes (stop-not-true (Err c.in-Err.stop) c.in-Err.stop refl)) c.mark-before.result
     (c.mark-before.ensures ∙ ap (λ (s : Seen). length s.nodes.triples) c.self.view_is) c.cut-in-Err.new.self c.cut-in-Err.ensures.triples c.cut-in-Err.ensures.budget c.cut-in-Err.ensures.fulls)
+
+pub invariant_of-self : goal.invariant_of-self
+invariant_of-self c =
+    watched-refused c.args.self.now c.solve.new.self (seen c.self-2.inside) c.self-2.view_is c.requires.store (c.in-Ok-false.ensures.only_nodes (not-true (Ok c.in-Ok-false.field-0) c.in-Ok-false.field-0 refl c.in-Ok-false.field-0-test)) c.self-2.inside.lent c.self-2.inside.uses
+    c.cut.new.self.triples
+    (ap (λ (s : Seen). s.nodes.triples) (cut-before c.args.self.now c.solve.new.self (seen c.self-2.inside) c.self-2.view_is (c.in-Ok-false.ensures.only_nodes (not-true (Ok c.in-Ok-false.field-0) c.in-Ok-false.field-0 refl c.in-Ok-false.field-0-test)) c.mark-before.result
+    (c.mark-before.ensures ∙ ap (λ (s : Seen). length s.nodes.triples) c.self.view_is) c.cut.new.self c.cut.ensures.triples c.cut.ensures.budget c.cut.ensures.fulls).same)
+    c.self-2.invariant
+
+pub invariant_of-self-in-Err : goal.invariant_of-self-in-Err
+invariant_of-self-in-Err c =
+    watched-refused c.args.self.now c.solve.new.self (seen c.self-2.inside) c.self-2.view_is c.requires.store (c.in-Err.ensures.only_nodes (stop-not-true (Err c.in-Err.stop) c.in-Err.stop refl)) c.self-2.inside.lent c.self-2.inside.uses
+    c.cut-in-Err.new.self.triples
+    (ap (λ (s : Seen). s.nodes.triples) (cut-before c.args.self.now c.solve.new.self (seen c.self-2.inside) c.self-2.view_is (c.in-Err.ensures.only_nodes (stop-not-true (Err c.in-Err.stop) c.in-Err.stop refl)) c.mark-before.result
+    (c.mark-before.ensures ∙ ap (λ (s : Seen). length s.nodes.triples) c.self.view_is) c.cut-in-Err.new.self c.cut-in-Err.ensures.triples c.cut-in-Err.ensures.budget c.cut-in-Err.ensures.fulls).same)
+    c.self-2.invariant
