@@ -1,6 +1,6 @@
 use Rattle.std.proofs.Common.{◌≡◌, ◌+◌, length}
 use Rattle.cb_elim.specs.Store.{IsStore}
-use Rattle.cb_store_cases.proofs.setup.with_variables.Given as goal
+use Rattle.cb_store_cases.proofs.setup.draw.Given as goal
 
 abbrev pub invariant-loop : goal.invariant-loop
 invariant-loop l = record {
