@@ -5,6 +5,7 @@ ghost use Rattle.cb_elim.specs.Moments.{IsMoment, KeepsMoments};
 use crate::setup::{end, with_variables};
 use cb_dd::{Node, Stop};
 use cb_elim::{Slot, Store, StoreMark};
+use std::alloc::Global;
 use std::test::Fail;
 
 // Adds the equation of the values of two slots.
