@@ -2,8 +2,6 @@
 #![tactic(auto)]
 
 #[cfg(test)]
-mod constants;
-#[cfg(test)]
 mod full;
 #[cfg(test)]
 mod products;

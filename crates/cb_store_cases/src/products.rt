@@ -130,12 +130,21 @@ fn try_with(alloc: Global, product: &Expr, what: Try) -> Result<bool, Stop>
     holds
 }
 
+// Tries all three.
+fn try_all(alloc: Global, product: &Expr) -> Result<bool, Stop>
+    requires { in_scope 1 1 product.now ≡ true }
+{
+    let constant = try_with(alloc, product, Try::IsTheConstant)?;
+    let refused = try_with(alloc, product, Try::IsRefused)?;
+    let held = try_with(alloc, product, Try::IsHeld)?;
+    Ok(constant && refused && held)
+}
+
 #[test]
 fn a_product_is_the_constant_is_refused_and_is_held(rt: HostRuntime) -> Result<(), Fail> {
     let times = product(rt.alloc())?;
-    for what in [Try::IsTheConstant, Try::IsRefused, Try::IsHeld] {
-        assert!(rt; try_with(rt.alloc(), &times, what)?);
-    }
+    let all = try_all(rt.alloc(), &times)?;
+    assert!(rt; all);
     Ok(())
 }
 
