@@ -1,8 +1,8 @@
 -- Cells added behind those that are there.
-use Rattle.std.proofs.Common.{◌≡◌, ◌⊎◌, inl, inr, ℕ, zero, suc, ◌+◌, ◌-◌, ◌<◌, ◌≤◌, List, [], ◌∷◌, ◌++◌, length, map, take, Option, Some, None, refl, sym, ap, subst, ◌∙◌, arith, length-append, append-nil}
+use Rattle.std.proofs.Common.{◌≡◌, ◌⊎◌, inl, inr, ℕ, zero, suc, ◌+◌, ◌-◌, ◌<◌, ◌≤◌, List, [], ◌∷◌, ◌++◌, length, map, take, Option, Some, None, refl, sym, ap, subst, ◌∙◌, arith, length-append, append-nil, append_assoc}
 use Rattle.std.specs.Prelude.{slice_get, get_or}
 use Rattle.std.proofs.lemmas.Bool.{cases_lt}
-use Rattle.std.proofs.lemmas.List.{take-append-le}
+use Rattle.std.proofs.lemmas.List.{take-append-le, take-take}
 use Rattle.std.proofs.Math.Seq.{take-length}
 use Rattle.std.proofs.lemmas.Option.{slice_get_within, slice_get-get_or, slice_get-map}
 use Rattle.cb_model.specs.declared.Sort.{Sort}
@@ -29,6 +29,34 @@ get-front (x ∷ xs) ys (suc r) h = get-front xs ys r (omega arith)
 pub get-behind : {X : Type 0} (xs ys : List X) (k : ℕ) → slice_get (xs ++ ys) (length xs + k) ≡ slice_get ys k
 get-behind [] ys k = ap (λ n. slice_get ys n) (let e : 0 + k ≡ k = omega arith in e)
 get-behind (x ∷ xs) ys k = ap (λ n. slice_get (x ∷ (xs ++ ys)) n) (let e : suc (length xs) + k ≡ suc (length xs + k) = omega arith in e) ∙ get-behind xs ys k
+
+get_or-front : {X : Type 0} (xs ys : List X) (r : ℕ) (d : X) → r < length xs → get_or (xs ++ ys) r d ≡ get_or xs r d
+get_or-front [] ys r d h = absurd (omega arith)
+get_or-front (x ∷ xs) ys zero d h = refl
+get_or-front (x ∷ xs) ys (suc r) d h = get_or-front xs ys r d (omega arith)
+
+-- ---- a list that was added to
+
+pub kept-front : {X : Type 0} (xs ys : List X) (x : X) → take (length (xs ++ x ∷ [])) ys ≡ xs ++ x ∷ [] → take (length xs) ys ≡ xs
+kept-front xs ys x h =
+    sym (take-take (length xs) (length (xs ++ x ∷ [])) ys (omega (arith, length-append xs (x ∷ []))))
+    ∙ ap (λ zs. take (length xs) zs) h
+    ∙ take-append-le (length xs) xs (x ∷ []) (omega arith)
+    ∙ take-length xs
+
+pub there-more : (n m : ℕ) (rs : List Ref) → n ≤ m → Each (λ r. r.0 < n) rs → Each (λ r. r.0 < m) rs
+there-more n m [] l h = tt
+there-more n m (r ∷ rs) l h = (let a = h.0 in omega arith, there-more n m rs l h.1)
+
+pub sorts-front : (ss ts : List Sort) (rs : List Ref) → Each (λ r. r.0 < length ss) rs → map (λ (r : Ref). get_or (ss ++ ts) r.0 sort.Bool) rs ≡ map (λ (r : Ref). get_or ss r.0 sort.Bool) rs
+sorts-front ss ts [] h = refl
+sorts-front ss ts (r ∷ rs) h =
+    ap (λ s. s ∷ map (λ (q : Ref). get_or (ss ++ ts) q.0 sort.Bool) rs) (get_or-front ss ts r.0 sort.Bool h.0)
+    ∙ ap (λ l. get_or ss r.0 sort.Bool ∷ l) (sorts-front ss ts rs h.1)
+
+pub sorts-behind : (ss new : List Sort) (rs : List Ref) → Each (λ r. r.0 < length ss) rs → new ≡ (ss ++ sort.Term ∷ []) ++ map (λ (r : Ref). get_or (ss ++ sort.Term ∷ []) r.0 sort.Bool) rs →
+    new ≡ ss ++ sort.Term ∷ map (λ (r : Ref). get_or ss r.0 sort.Bool) rs
+sorts-behind ss new rs h e = e ∙ append_assoc ss (sort.Term ∷ []) _ ∙ ap (λ l. ss ++ sort.Term ∷ l) (sorts-front ss (sort.Term ∷ []) rs h)
 
 -- what is said of each cell, of the old ones and of the new ones
 module _ (cs more : List Stored) where

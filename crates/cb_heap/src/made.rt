@@ -55,7 +55,8 @@ pub(crate) fn push_node(
     cells.push(Stored::Node(name, args.len()))?;
     push_links(cells, args)?;
     sorts.push(Sort::Term)?;
-    push_sorts(sorts, args)
+    push_sorts(sorts, args)?;
+    Ok(())
 }
 
 // Adds a link to each argument.
