@@ -1,10 +1,10 @@
 -- Cells added behind those that are there.
-use Rattle.std.proofs.Common.{◌≡◌, ◌⊎◌, inl, inr, ℕ, zero, suc, ◌+◌, ◌-◌, ◌<◌, ◌≤◌, List, [], ◌∷◌, ◌++◌, length, map, take, Option, Some, None, refl, sym, ap, subst, ◌∙◌, arith, length-append, append-nil, append_assoc}
+use Rattle.std.proofs.Common.{◌≡◌, inl, inr, ℕ, zero, suc, ◌+◌, ◌-◌, ◌<◌, ◌≤◌, List, [], ◌∷◌, ◌++◌, length, map, take, Some, refl, sym, ap, subst, ◌∙◌, arith, length-append, append-nil, append_assoc}
 use Rattle.std.specs.Prelude.{slice_get, get_or}
 use Rattle.std.proofs.lemmas.Bool.{cases_lt}
 use Rattle.std.proofs.lemmas.List.{take-append-le, take-take}
 use Rattle.std.proofs.Math.Seq.{take-length}
-use Rattle.std.proofs.lemmas.Option.{slice_get_within, slice_get-get_or, slice_get-map}
+use Rattle.std.proofs.lemmas.Option.{slice_get_within}
 use Rattle.cb_model.specs.declared.Sort.{Sort}
 use Rattle.cb_model.specs.declared.Sort.TheVariants as sort
 use Rattle.cb_model.specs.Bits.{Each}
@@ -14,7 +14,7 @@ use Rattle.cb_heap.specs.declared.Cell.{Cell}
 use Rattle.cb_heap.specs.declared.Cell.TheVariants as shown
 use Rattle.cb_heap.specs.declared.Stored.{Stored}
 use Rattle.cb_heap.specs.declared.Stored.TheVariants as cell
-use Rattle.cb_heap.specs.Finite.{IsFinite, ends, IsChild, Names, AllFinite}
+use Rattle.cb_heap.specs.Finite.{IsFinite, ends, Names, AllFinite}
 use Rattle.cb_heap.specs.Links.{IsLinked, LinkFalls, IsSolidAt}
 use Rattle.cb_heap.specs.Heap.{Terms, IsHeap, IsAddable, stored_as, with_cell, with_node}
 use Rattle.cb_heap.specs.Moments.{KeepsMoments}
@@ -155,9 +155,10 @@ only-one c (suc k) d is = absurd (no_some _ d refl is)
 module _ (t : Terms) (h : IsHeap t) (c : Cell) (a : IsAddable (length t.cells) c) where
   pub heap-cell : IsHeap (with_cell t c)
   heap-cell = heap-more t (stored_as c ∷ []) _ h refl (linked-more t.cells (stored_as c ∷ []) h.linked (λ k d is.
-      let e = only-one (stored_as c) k d is in
-      (subst (λ x. LinkFalls (t.cells ++ stored_as c ∷ []) (length t.cells + k) x) e (addable-falls _ (length t.cells) (length t.cells + k) c a),
-        λ j n. let l = addable-names (length t.cells) (length t.cells + k) j c a (subst (λ x. Names (length t.cells + k) x j) (sym e) n) in omega (arith, length-append t.cells (stored_as c ∷ [])))))
+      let e = only-one (stored_as c) k d is in (
+        subst (λ x. LinkFalls (t.cells ++ stored_as c ∷ []) (length t.cells + k) x) e (addable-falls _ (length t.cells) (length t.cells + k) c a),
+        λ j n. let l = addable-names (length t.cells) (length t.cells + k) j c a (subst (λ x. Names (length t.cells + k) x j) (sym e) n) in omega (arith, length-append t.cells (stored_as c ∷ [])),
+      )))
 
   pub finite-cell : AllFinite t.cells → AllFinite (t.cells ++ stored_as c ∷ [])
   finite-cell all = new-finite t.cells (stored_as c ∷ []) h.linked all (λ k d is j n.
@@ -207,11 +208,11 @@ module _ (t : Terms) (h : IsHeap t) (name : ℕ) (args : List Ref) (there : Each
   link-finite : AllFinite t.cells → (k : ℕ) → k < length args → IsFinite (t.cells ++ new) (length t.cells + suc k)
   link-finite all k less =
       ends (λ j child.
-          let is : slice_get (map (λ r. cell.Bound r) args) k ≡ Some child.0 = sym (get-behind t.cells new (suc k)) ∙ child.1 in
-          let p = link-at (length t.cells) args k child.0 there is in
-          let e : j ≡ p.0.0 = subst (λ x. Names (length t.cells + suc k) x j) p.1 child.2 in
-          let l = p.2 in
-          old-finite t.cells new h.linked j (omega arith) (all j))
+      let is : slice_get (map (λ r. cell.Bound r) args) k ≡ Some child.0 = sym (get-behind t.cells new (suc k)) ∙ child.1 in
+      let p = link-at (length t.cells) args k child.0 there is in
+      let e : j ≡ p.0.0 = subst (λ x. Names (length t.cells + suc k) x j) p.1 child.2 in
+      let l = p.2 in
+      old-finite t.cells new h.linked j (omega arith) (all j))
 
   node-children : AllFinite t.cells → (k : ℕ) (c : Stored) → slice_get new k ≡ Some c → (j : ℕ) → Names (length t.cells + k) c j → IsFinite (t.cells ++ new) j
   node-children all zero c is j n =

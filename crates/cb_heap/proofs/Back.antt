@@ -6,7 +6,7 @@ use Rattle.std.specs.Option.{option_map}
 use Rattle.std.proofs.lemmas.Option.{slice_get-map}
 use Rattle.std.proofs.lemmas.Map.Views.{Contains-from_any}
 use Rattle.std.proofs.lemmas.Bool.{cases_lt, cases_Bool, eqb-true, eqb-false}
-use Rattle.std.proofs.lemmas.List.{take-set-le, set_past, take-append-le, drop-append-le, length-take, length-set, take-take, append-nil}
+use Rattle.std.proofs.lemmas.List.{take-set-le, set_past, take-append-le, drop-append-le, length-take, take-take}
 use Rattle.std.proofs.Math.Seq.{take-set-lt, take-length, drop-length}
 use Rattle.cb_model.specs.declared.Sort.{Sort}
 use Rattle.cb_model.specs.Bits.{Each}
@@ -81,6 +81,7 @@ back-now t h = λ i. record { cells = cells i; sorts = sorts i; trail = take-len
   where
     cells : undone (drop (length t.trail) t.trail) (take (length t.cells) t.cells) ≡ t.cells
     cells = ap (λ xs. undone xs (take (length t.cells) t.cells)) (drop-length t.trail) ∙ take-length t.cells
+
     sorts : take (length t.cells) t.sorts ≡ t.sorts
     sorts = ap (λ n. take n t.sorts) (sym h.number) ∙ take-length t.sorts
 

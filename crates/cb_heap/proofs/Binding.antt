@@ -1,27 +1,29 @@
 -- A variable that is bound.
-use Rattle.std.proofs.Common.{◌≡◌, ◌≢◌, ◌⊎◌, inl, inr, ℕ, zero, suc, ◌+◌, ◌<◌, ◌≤◌, ◌↔◌, List, [], ◌∷◌, ◌++◌, length, take, Option, Some, None, refl, sym, ap, subst, ◌∙◌, arith, append-nil}
-use Rattle.std.specs.Prelude.{slice_get, slice_set, get_or}
+use Rattle.std.proofs.Common.{◌≡◌, ◌≢◌, inl, inr, ℕ, zero, suc, ◌<◌, List, [], ◌∷◌, ◌++◌, length, take, Some, None, refl, sym, ap, subst, ◌∙◌, arith, append-nil}
+use Rattle.std.specs.Prelude.{slice_get, slice_set}
 use Rattle.std.proofs.lemmas.Bool.{cases_eq, cases_lt}
-use Rattle.std.proofs.lemmas.List.{length-set, set-set}
+use Rattle.std.specs.Global.{Vec}
+use Rattle.std.specs.Vec.{with_items}
+use Rattle.std.proofs.lemmas.List.{length-set, set-set, with_items_is}
 use Rattle.std.proofs.Math.Seq.{take-length}
-use Rattle.std.proofs.lemmas.Option.{slice_get_within, slice_get-get_or}
+use Rattle.std.proofs.lemmas.Option.{slice_get_within}
 use Rattle.cb_model.specs.declared.Sort.{Sort}
 use Rattle.cb_model.specs.declared.Sort.TheVariants as sort
-use Rattle.cb_model.specs.Bits.{Bits, Each}
+use Rattle.cb_model.specs.Bits.{Each}
 use Rattle.cb_model.specs.Values.{Sorts}
 use Rattle.cb_heap.specs.declared.Ref.{Ref}
 use Rattle.cb_heap.specs.declared.Change.{Change}
 use Rattle.cb_heap.specs.declared.Stored.{Stored}
 use Rattle.cb_heap.specs.declared.Stored.TheVariants as cell
-use Rattle.cb_heap.specs.Reading.{Reading, IsReading, IsUnbound}
-use Rattle.cb_heap.specs.Finite.{IsFinite, ends, IsChild, Names, AllFinite, IsSorted, CellSorted}
+use Rattle.cb_heap.specs.Reading.{IsUnbound}
+use Rattle.cb_heap.specs.Finite.{IsFinite, ends, Names, AllFinite, IsSorted, CellSorted}
 use Rattle.cb_heap.specs.Below.{IsBelow, here, down}
-use Rattle.cb_heap.specs.Links.{IsLinked, LinkFalls, IsSolid, IsSolidAt, link_of, LeadsTo, arrives, goes, IsLast}
+use Rattle.cb_heap.specs.Links.{LinkFalls, link_of, LeadsTo, arrives, goes, IsLast}
 use Rattle.cb_heap.specs.Heap.{Terms, IsHeap, IsBound, IsUnboundAt, with_rewritten}
-use Rattle.cb_heap.specs.Moments.{KeepsMoments, undone}
+use Rattle.cb_heap.specs.Moments.{KeepsMoments}
 use Rattle.cb_heap.proofs.Steps.{some-inj, no_some, get-set-same, get-set-other, bound-step}
 use Rattle.cb_heap.proofs.Chains.{links-name, last-is}
-use Rattle.cb_heap.proofs.Rewriting.{linked-set, sorted-set, solid-stays, unbound-no-solid, solid-of}
+use Rattle.cb_heap.proofs.Rewriting.{linked-set, sorted-set, unbound-no-solid, solid-of}
 use Rattle.cb_heap.proofs.Back.{keeps}
 
 set-own : (cs : List Stored) (r : ℕ) (c : Stored) → slice_get cs r ≡ Some c → slice_set cs r c ≡ cs
@@ -134,9 +136,9 @@ module _ (t : Terms) (h : IsHeap t) (v : ℕ) (d : Stored) (is : slice_get t.cel
     changes = record { cell = v; old = d } ∷ [];
     trail = refl;
     cells =
-      ap (λ cs. slice_set cs v d) (ap (λ n. take n rewritten) (sym (length-set t.cells v (cell.Bound to))) ∙ take-length rewritten)
-      ∙ set-set t.cells v (cell.Bound to) d
-      ∙ set-own t.cells v d is;
+        ap (λ cs. slice_set cs v d) (ap (λ n. take n rewritten) (sym (length-set t.cells v (cell.Bound to))) ∙ take-length rewritten)
+        ∙ set-set t.cells v (cell.Bound to) d
+        ∙ set-own t.cells v d is;
   }) h
 
   fits-bound : (q : Sorts) → slice_get t.sorts v ≡ slice_get t.sorts to.0 → IsSorted q t.sorts t.cells → IsSorted q t.sorts rewritten
@@ -160,8 +162,11 @@ module _ (t : Terms) (h : IsHeap t) (v : ℕ) (d : Stored) (is : slice_get t.cel
     pub falls-to : LinkFalls (slice_set t.cells v (cell.Bound (record { 0 = e }))) v (cell.Bound (record { 0 = e }))
     falls-to = elim (cases_lt e v) [
       | inl less ↦ inl less
-      | inr more ↦ inr (last.cell, get-set-other t.cells v e (cell.Bound (record { 0 = e })) end-other ∙ last.there,
-        solid-of last.cell last.no_link (old (let n = end-other in omega (arith, n))))
+      | inr more ↦ inr (
+        last.cell,
+        get-set-other t.cells v e (cell.Bound (record { 0 = e })) end-other ∙ last.there,
+        solid-of last.cell last.no_link (old (let n = end-other in omega (arith, n))),
+      )
     ]
 
     pub bound-to : IsBound t (with_rewritten t v d (cell.Bound (record { 0 = e }))) v to
@@ -174,14 +179,18 @@ module _ (t : Terms) (h : IsHeap t) (v : ℕ) (d : Stored) (is : slice_get t.cel
       fits = λ q o. fits-bound t h v d is u (record { 0 = e }) end-within q (sorts ∙ leads-sort q t.sorts t.cells o to e last.leads) o;
       finite = finite;
       end = e;
-      one = (last-is new v e last.cell there last.no_link (goes (cell.Bound (record { 0 = e })) (record { 0 = e }) (get-set-same t.cells v d (cell.Bound (record { 0 = e })) is) refl arrives),
-        last-is new to e last.cell there last.no_link (leads-apart t.cells v (cell.Bound (record { 0 = e })) to e last.leads apart));
+      one = (
+        last-is new v e last.cell there last.no_link (goes (cell.Bound (record { 0 = e })) (record { 0 = e }) (get-set-same t.cells v d (cell.Bound (record { 0 = e })) is) refl arrives),
+        last-is new to e last.cell there last.no_link (leads-apart t.cells v (cell.Bound (record { 0 = e })) to e last.leads apart),
+      );
     }
       where
         new : List Stored
         new = slice_set t.cells v (cell.Bound (record { 0 = e }))
+
         there : slice_get new e ≡ Some last.cell
         there = get-set-other t.cells v e (cell.Bound (record { 0 = e })) end-other ∙ last.there
+
         finite : AllFinite t.cells → AllFinite new
         finite all r = elim (cases_eq r v) [ inl same ↦ at-v r same | inr other ↦ elsewhere r (all r) ]
           where
@@ -190,6 +199,7 @@ module _ (t : Terms) (h : IsHeap t) (v : ℕ) (d : Stored) (is : slice_get t.cel
                 let c : cell.Bound (record { 0 = e }) ≡ child.0 = some-inj _ child.0 (sym (get-set-same t.cells v d (cell.Bound (record { 0 = e })) is) ∙ subst (λ q. slice_get new q ≡ Some child.0) same child.1) in
                 let n : j ≡ e = subst (λ x. Names r x j) (sym c) child.2 in
                 subst (λ q. IsFinite new q) (sym n) (finite-apart t.cells v (cell.Bound (record { 0 = e })) e (all e) end-apart))
+
             elsewhere : (r : ℕ) → IsFinite t.cells r → IsFinite new r
             elsewhere r (ends f) = elim (cases_eq r v) [
               | inl same ↦ at-v r same
@@ -213,19 +223,22 @@ module _ (t : Terms) (h : IsHeap t) (v : ℕ) (d : Stored) (is : slice_get t.cel
       where
         new : List Stored
         new = slice_set t.cells e (cell.Bound (record { 0 = v }))
+
         there : slice_get new v ≡ Some d
         there = get-set-other t.cells e v (cell.Bound (record { 0 = v })) (λ x. end-other (sym x)) ∙ is
+
         at-v : IsFinite new v
         at-v = ends (λ j child. absurd (unbound-names v j child.0 (subst IsUnbound (some-inj d child.0 (sym there ∙ child.1)) u) child.2))
+
         finite : AllFinite t.cells → AllFinite new
         finite all r = elsewhere r (all r)
           where
             elsewhere : (r : ℕ) → IsFinite t.cells r → IsFinite new r
             elsewhere r (ends f) = elim (cases_eq r e) [
               | inl same ↦ ends (λ j child.
-                let c : cell.Bound (record { 0 = v }) ≡ child.0 = some-inj _ child.0 (sym (get-set-same t.cells e last.cell (cell.Bound (record { 0 = v })) last.there) ∙ subst (λ q. slice_get new q ≡ Some child.0) same child.1) in
-                let n : j ≡ v = subst (λ x. Names r x j) (sym c) child.2 in
-                subst (λ q. IsFinite new q) (sym n) at-v)
+                  let c : cell.Bound (record { 0 = v }) ≡ child.0 = some-inj _ child.0 (sym (get-set-same t.cells e last.cell (cell.Bound (record { 0 = v })) last.there) ∙ subst (λ q. slice_get new q ≡ Some child.0) same child.1) in
+                  let n : j ≡ v = subst (λ x. Names r x j) (sym c) child.2 in
+                  subst (λ q. IsFinite new q) (sym n) at-v)
               | inr other ↦ ends (λ j child. elsewhere j (f j (child.0, sym (get-set-other t.cells e r (cell.Bound (record { 0 = v })) other) ∙ child.1, child.2)))
             ]
 
@@ -247,10 +260,11 @@ module _ (now t : Terms) (eq : t ≡ now) (v to e : ℕ) (last : IsLast t.cells 
       let d = u.0 in
       let same : with_rewritten t v d (cell.Bound (record { 0 = e })) ≡ now_is = λ i. record { cells = sym ce i; sorts = t.sorts; trail = sym (xe d u.1) i } in
       let young : (v < e) → IsUnbound last.cell → ⊥ = λ l x. old l (last.cell, last.there, x) in
-      subst (λ (o : Terms). Binds t o v to) same
-      (bound-to t k v d u.1 u.2 to e last s a young,
+      subst (λ (o : Terms). Binds t o v to) same (
+        bound-to t k v d u.1 u.2 to e last s a young,
         heap-bound t k v d u.1 u.2 (record { 0 = e }) (end-within t k v d u.1 u.2 to e last s a) (falls-to t k v d u.1 u.2 to e last s a young),
-        keeps-bound t k v d u.1 u.2 (record { 0 = e }) (end-within t k v d u.1 u.2 to e last s a))) h unbound sorts apart
+        keeps-bound t k v d u.1 u.2 (record { 0 = e }) (end-within t k v d u.1 u.2 to e last s a),
+      )) h unbound sorts apart
 
   pub binds-from : v < e → IsUnboundAt t.cells e → cs ≡ slice_set t.cells e (cell.Bound (record { 0 = v })) → ((c : Stored) → slice_get t.cells e ≡ Some c → xs ≡ t.trail ++ record { cell = e; old = c } ∷ []) → Binds now now_is v to
   binds-from less open_end ce xe = subst Given eq (λ k u s a.
@@ -258,7 +272,12 @@ module _ (now t : Terms) (eq : t ≡ now) (v to e : ℕ) (last : IsLast t.cells 
       let same : with_rewritten t e d (cell.Bound (record { 0 = v })) ≡ now_is = λ i. record { cells = sym ce i; sorts = t.sorts; trail = sym (xe d last.there) i } in
       let x : IsUnbound d = subst IsUnbound (some-inj open_end.0 d (sym open_end.1 ∙ last.there)) open_end.2 in
       let there : v < length t.cells = slice_get_within t.cells v u.0 u.1 in
-      subst (λ (o : Terms). Binds t o v to) same
-      (bound-from t k v u.0 u.1 u.2 to e last s a less x,
+      subst (λ (o : Terms). Binds t o v to) same (
+        bound-from t k v u.0 u.1 u.2 to e last s a less x,
         heap-bound t k e d last.there x (record { 0 = v }) there (inl less),
-        keeps-bound t k e d last.there x (record { 0 = v }) there)) h unbound sorts apart
+        keeps-bound t k e d last.there x (record { 0 = v }) there,
+      )) h unbound sorts apart
+
+-- the items of a list that was written to in place
+pub written : (v : Vec Stored) (r : ℕ) (c : Stored) (cs : List Stored) → cs ≡ slice_set v.items r c → (with_items v cs).items ≡ slice_set v.items r c
+written v r c cs e = with_items_is v cs (ap length e ∙ length-set v.items r c ∙ sym v.ok.0) ∙ e

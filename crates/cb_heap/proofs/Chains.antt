@@ -1,14 +1,14 @@
 -- Chains of links.
-use Rattle.std.proofs.Common.{◌≡◌, ◌≢◌, ◌⊎◌, inl, inr, ℕ, zero, suc, ◌+◌, ◌<◌, ◌≤◌, List, [], ◌∷◌, length, Option, Some, None, refl, sym, ap, subst, ◌∙◌, arith}
-use Rattle.std.specs.Prelude.{slice_get, slice_set, get_or}
+use Rattle.std.proofs.Common.{◌≡◌, ◌⊎◌, inl, inr, ℕ, suc, ◌+◌, ◌<◌, List, length, Some, None, refl, sym, ap, subst, ◌∙◌, arith}
+use Rattle.std.specs.Prelude.{slice_get, get_or}
 use Rattle.std.specs.Option.{option_map_or}
-use Rattle.std.proofs.lemmas.Option.{slice_get_within, slice_get-get_or}
+use Rattle.std.proofs.lemmas.Option.{slice_get-get_or}
 use Rattle.cb_model.specs.Bits.{Bits}
 use Rattle.cb_heap.specs.declared.Stored.{Stored}
 use Rattle.cb_heap.specs.declared.Ref.{Ref}
 use Rattle.cb_heap.specs.declared.Stored.TheVariants as cell
 use Rattle.cb_heap.specs.Reading.{Reading, CellHolds, CellsHold}
-use Rattle.cb_heap.specs.Finite.{IsChild, Names, IsFinite, ends}
+use Rattle.cb_heap.specs.Finite.{Names, IsFinite, ends}
 use Rattle.cb_heap.specs.Links.{IsLinked, LinkFalls, IsSolid, IsSolidAt, link_of, chain, chain_step, LeadsTo, arrives, goes, IsLast}
 use Rattle.cb_heap.proofs.Steps.{some-inj, no_some}
 

@@ -1,22 +1,21 @@
 -- What the values of a cell tell of the cells below it, and which values unbound variables have.
-use Rattle.std.proofs.Common.{◌≡◌, ◌≢◌, ◌⊎◌, inl, inr, ℕ, zero, suc, ◌+◌, ◌<◌, ◌≤◌, ◌↔◌, Bool, true, false, List, [], ◌∷◌, length, map, Option, Some, None, ℤ, pos, nat_eq, ◌&&◌, if◌then◌else◌, eq-eqb, rules, refl, sym, ap, subst, ◌∙◌, arith}
-use Rattle.std.specs.Prelude.{slice_get, slice_set, get_or, FitsSigned}
+use Rattle.std.proofs.Common.{◌≡◌, ◌≢◌, ◌⊎◌, inl, inr, ℕ, zero, suc, ◌+◌, ◌<◌, ◌≤◌, Bool, true, false, List, [], ◌∷◌, length, map, Some, None, ℤ, pos, nat_eq, ◌&&◌, if◌then◌else◌, eq-eqb, rules, refl, sym, ap, subst, ◌∙◌, arith}
+use Rattle.std.specs.Prelude.{slice_get, get_or, FitsSigned}
 use Rattle.std.specs.Int.{w64}
 use Rattle.std.proofs.lemmas.Bool.{cases_eq, ne_eqb}
-use Rattle.std.proofs.lemmas.Option.{slice_get_within, slice_get-get_or, get_or_from_slice_get}
+use Rattle.std.proofs.lemmas.Option.{slice_get-get_or, get_or_from_slice_get}
 use Rattle.cb_model.specs.declared.Sort.{Sort}
 use Rattle.cb_model.specs.declared.Sort.TheVariants as sort
-use Rattle.cb_model.specs.Bits.{Bits, Each, numbers_from}
+use Rattle.cb_model.specs.Bits.{Bits, numbers_from}
 use Rattle.cb_model.specs.Values.{Ground, Bit, Word, Int, Name, Grounds, Last, More, grounds, Sorts, Fits}
-use Rattle.cb_model.specs.Derivation.{Outermost, outermost, ABit, Empty, NotEmpty, AnInt, ANode}
+use Rattle.cb_model.specs.Derivation.{Outermost, outermost, Empty, AnInt}
 use Rattle.cb_heap.specs.declared.Stored.{Stored}
-use Rattle.cb_heap.specs.declared.Ref.{Ref}
 use Rattle.cb_heap.specs.declared.Stored.TheVariants as cell
-use Rattle.cb_heap.specs.Reading.{Reading, CellHolds, CellsHold, IsReading, Agree, side_by_side, IsUnbound, form_of}
+use Rattle.cb_heap.specs.Reading.{Reading, CellHolds, CellsHold, IsReading, IsUnbound, form_of}
 use Rattle.cb_heap.specs.Finite.{IsFinite, ends, IsChild, Names, AllFinite, IsSorted}
 use Rattle.cb_heap.specs.Below.{IsBelow, here, down}
 use Rattle.cb_heap.specs.Links.{link_of}
-use Rattle.cb_heap.proofs.Steps.{some-inj, no_some, bit-inj, word-inj, args-inj, all-left, form-tells}
+use Rattle.cb_heap.proofs.Steps.{no_some, bit-inj, word-inj, args-inj, form-tells}
 use Rattle.cb_heap.proofs.Values.{has-reading}
 
 -- ---- one value, where the unbound cells and the leaves below have one
@@ -62,6 +61,7 @@ module _ (w v : Bits) (cs : List Stored) (g h : Reading) (hg : CellsHold w cs g)
       first : List Ground → Ground
       first (x ∷ xs) = x
       first [] = Bit false
+
       rest : List Ground → List Ground
       rest (x ∷ xs) = xs
       rest [] = []
@@ -72,6 +72,7 @@ module _ (w v : Bits) (cs : List Stored) (g h : Reading) (hg : CellsHold w cs g)
       list : Grounds → List Ground
       list Last = []
       list (More x xs) = x ∷ list xs
+
       back : (xs : List Ground) → list (grounds xs) ≡ xs
       back [] = refl
       back (x ∷ xs) = ap (λ l. x ∷ l) (back xs)
@@ -159,6 +160,7 @@ but_one-good t ss v b r z e = go (nat_eq r v && b)
   where
     same : get_or ss r sort.Bool ≡ z
     same = get_or_from_slice_get ss r z sort.Bool e
+
     go : (d : Bool) → Fits t z (if d then other_value (get_or ss r sort.Bool) else any_value (get_or ss r sort.Bool))
     go true = subst (λ x. Fits t z (other_value x)) (sym same) (other_fits t z)
     go false = subst (λ x. Fits t z (any_value x)) (sym same) (any_fits t z)
@@ -173,10 +175,14 @@ two-forms t w ss cs all o v c is u z sv n =
     let q = has-reading t w (but_one ss v true) ss cs all o (but_one-good t ss v true) in
     let sz : get_or ss v sort.Bool ≡ z = get_or_from_slice_get ss v z sort.Bool sv in
     let a : p.0 v ≡ any_value z = p.2 v c is u ∙ ap (λ b. if b then other_value (get_or ss v sort.Bool) else any_value (get_or ss v sort.Bool)) (and-false (nat_eq v v)) ∙ ap any_value sz in
-    let b : q.0 v ≡ other_value z = q.2 v c is u ∙ ap (λ b. if b then other_value (get_or ss v sort.Bool) else any_value (get_or ss v sort.Bool)) (ap (λ b. b && true) (eq-eqb v v refl)) ∙ ap other_value sz in
-    (p.0, q.0, p.1, q.1,
+    let b : q.0 v ≡ other_value z = q.2 v c is u ∙ ap (λ b. if b then other_value (get_or ss v sort.Bool) else any_value (get_or ss v sort.Bool)) (ap (λ b. b && true) (eq-eqb v v refl)) ∙ ap other_value sz in (
+      p.0,
+      q.0,
+      p.1,
+      q.1,
       λ e. forms-differ z n (sym (ap outermost a) ∙ e ∙ ap outermost b),
-      λ r d at x ne. p.2 r d at x ∙ ap (λ b. if b then other_value (get_or ss r sort.Bool) else any_value (get_or ss r sort.Bool)) (and-false (nat_eq r v) ∙ sym (ap (λ b. b && true) (ne_eqb r v ne))) ∙ sym (q.2 r d at x))
+      λ r d at x ne. p.2 r d at x ∙ ap (λ b. if b then other_value (get_or ss r sort.Bool) else any_value (get_or ss r sort.Bool)) (and-false (nat_eq r v) ∙ sym (ap (λ b. b && true) (ne_eqb r v ne))) ∙ sym (q.2 r d at x),
+    )
   where
     and-false : (b : Bool) → (b && false) ≡ false
     and-false true = refl
@@ -192,6 +198,7 @@ differ-somewhere t w ss cs all o v r c d is u z sv n ne ir link h =
   where
     solid : (d : Stored) (f : Outermost) (g h : Reading) → CellHolds w g r d → CellHolds w h r d → form_of d ≡ Some f → outermost (g r) ≡ outermost (h r)
     solid d f g h a b e = form-tells w g r d f a e ∙ sym (form-tells w h r d f b e)
+
     same : (d : Stored) (g h : Reading) → IsReading t w ss cs g → IsReading t w ss cs h → slice_get cs r ≡ Some d → link_of d ≡ None →
         ((q : ℕ) (e : Stored) → slice_get cs q ≡ Some e → IsUnbound e → q ≢ v → g q ≡ h q) → outermost (g r) ≡ outermost (h r)
     same cell.BusVar g h a b at l f = ap outermost (f r cell.BusVar at tt ne)

@@ -1,25 +1,23 @@
 -- One cell rewritten: links and sorts.
-use Rattle.std.proofs.Common.{◌≡◌, ◌≢◌, ◌⊎◌, inl, inr, ℕ, zero, suc, ◌+◌, ◌<◌, ◌≤◌, List, [], ◌∷◌, length, Option, Some, None, refl, sym, ap, subst, ◌∙◌, arith}
-use Rattle.std.specs.Prelude.{slice_get, slice_set, get_or}
+use Rattle.std.proofs.Common.{◌≡◌, inl, inr, ℕ, ◌<◌, List, length, Some, None, refl, sym, subst, ◌∙◌}
+use Rattle.std.specs.Prelude.{slice_get, slice_set}
 use Rattle.std.proofs.lemmas.Bool.{cases_eq}
 use Rattle.std.proofs.lemmas.List.{length-set}
 use Rattle.cb_model.specs.declared.Sort.{Sort}
 use Rattle.cb_model.specs.Values.{Sorts}
 use Rattle.cb_heap.specs.declared.Stored.{Stored}
-use Rattle.cb_heap.specs.declared.Ref.{Ref}
 use Rattle.cb_heap.specs.declared.Stored.TheVariants as cell
 use Rattle.cb_heap.specs.Reading.{IsUnbound}
-use Rattle.cb_heap.specs.Finite.{IsSorted, CellSorted, IsChild, Names}
+use Rattle.cb_heap.specs.Finite.{IsSorted, CellSorted, Names}
 use Rattle.cb_heap.specs.Links.{IsLinked, LinkFalls, IsSolid, IsSolidAt, link_of}
 use Rattle.cb_heap.proofs.Steps.{some-inj, no_some, get-set-same, get-set-other}
-
 
 module _ (cs : List Stored) (v : ℕ) (c d : Stored) (is : slice_get cs v ≡ Some d) where
   pub solid-stays : (IsSolid d → IsSolid c) → (j : ℕ) → IsSolidAt cs j → IsSolidAt (slice_set cs v c) j
   solid-stays f j s = elim (cases_eq j v) [
     | inl same ↦
-      let at : slice_get cs j ≡ Some d = subst (λ q. slice_get cs q ≡ Some d) (sym same) is in
-      (c, subst (λ q. slice_get (slice_set cs v c) q ≡ Some c) (sym same) (get-set-same cs v d c is), f (subst IsSolid (some-inj s.0 d (sym s.1 ∙ at)) s.2))
+        let at : slice_get cs j ≡ Some d = subst (λ q. slice_get cs q ≡ Some d) (sym same) is in
+        (c, subst (λ q. slice_get (slice_set cs v c) q ≡ Some c) (sym same) (get-set-same cs v d c is), f (subst IsSolid (some-inj s.0 d (sym s.1 ∙ at)) s.2))
     | inr other ↦ (s.0, get-set-other cs v j c other ∙ s.1, s.2)
   ]
 
@@ -80,4 +78,3 @@ solid-of (cell.Int z) e n = tt
 solid-of (cell.Node m k) e n = tt
 solid-of (cell.Bound to) e n = absurd (no_some _ to e refl)
 solid-of (cell.Same to) e n = tt
-

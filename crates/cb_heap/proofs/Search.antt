@@ -1,5 +1,5 @@
 -- The search for a cell below a cell.
-use Rattle.std.proofs.Common.{◌≡◌, ◌≢◌, ◌⊎◌, inl, inr, ℕ, zero, suc, ◌+◌, ◌-◌, ◌<◌, ◌≤◌, ◌^◌, ◌↔◌, Bool, true, false, cond, ◌||◌, List, [], ◌∷◌, ◌++◌, length, nat_eq, Option, Some, None, refl, sym, ap, subst, ◌∙◌, arith, length-append, append-nil, append_assoc, if◌then◌else◌}
+use Rattle.std.proofs.Common.{◌≡◌, ◌≢◌, ◌⊎◌, inl, inr, ℕ, zero, suc, ◌+◌, ◌<◌, ◌≤◌, ◌^◌, ◌↔◌, Bool, true, cond, List, [], ◌∷◌, ◌++◌, length, nat_eq, Some, None, refl, sym, ap, subst, ◌∙◌, arith, length-append, append-nil, append_assoc, if◌then◌else◌}
 use Rattle.std.specs.Prelude.{slice_get, get_or}
 use Rattle.std.specs.List.{list_any, Contains, IsDistinct}
 use Rattle.std.proofs.lemmas.Bool.{cases_Bool, cases_lt, eqb-true, eq-eqb, true≢false}
@@ -136,10 +136,12 @@ module _ (cs : List Stored) (linked : IsLinked cs) (from to : ℕ) (met new : Li
           (p.0, λ q child. before q (p.1 q child))
       | inr more ↦
           let e : k ≡ done = omega (arith, lt, more) in
-          let same : n ≡ i = some-inj n i (sym at ∙ sym (get-front met m.more done (slice_get_within met done n at)) ∙ sym (ap (λ xs. slice_get xs done) m.behind) ∙ ap (slice_get new) (sym e) ∙ there) in
-          (λ x. other (same ∙ x), λ q child.
-            let d : c ≡ child.0 = some-inj c child.0 (sym is ∙ ap (slice_get cs) same ∙ child.1) in
-            m.all q (subst (λ x. Names n x q) (sym d) (subst (λ x. Names x child.0 q) (sym same) child.2)))
+          let same : n ≡ i = some-inj n i (sym at ∙ sym (get-front met m.more done (slice_get_within met done n at)) ∙ sym (ap (λ xs. slice_get xs done) m.behind) ∙ ap (slice_get new) (sym e) ∙ there) in (
+            λ x. other (same ∙ x),
+            λ q child.
+                let d : c ≡ child.0 = some-inj c child.0 (sym is ∙ ap (slice_get cs) same ∙ child.1) in
+                m.all q (subst (λ x. Names n x q) (sym d) (subst (λ x. Names x child.0 q) (sym same) child.2)),
+          )
     ];
     within = let w = slice_get_within met done n at in let e = ap length m.behind in omega (arith, w, e, length-append met m.more);
   }

@@ -1,17 +1,17 @@
 -- Steps of unification, each an equivalence for every choice of bits and values.
-use Rattle.std.proofs.Common.{◌≡◌, ◌≢◌, ◌⊎◌, inl, inr, ℕ, zero, suc, ◌+◌, ◌<◌, ◌↔◌, Bool, List, [], ◌∷◌, length, map, Option, Some, None, refl, sym, ap, subst, ◌∙◌, arith}
+use Rattle.std.proofs.Common.{◌≡◌, ◌≢◌, inl, inr, ℕ, zero, suc, ◌↔◌, Bool, List, [], ◌∷◌, map, Option, Some, None, refl, sym, ap, subst, ◌∙◌}
 use Rattle.std.specs.Prelude.{slice_get, slice_set}
 use Rattle.std.proofs.lemmas.Bool.{cases_eq}
 use Rattle.std.specs.Option.{option_map_or}
 use Rattle.cb_model.specs.declared.Sort.{Sort}
 use Rattle.cb_model.specs.declared.Sort.TheVariants as sort
-use Rattle.cb_model.specs.Bits.{Bits, Each, numbers_from}
+use Rattle.cb_model.specs.Bits.{Bits, numbers_from}
 use Rattle.cb_model.specs.Values.{Ground, Bit, Word, Int, Name, Grounds, Last, More, grounds, Sorts, Fits}
 use Rattle.cb_model.specs.Derivation.{Outermost, outermost}
 use Rattle.cb_heap.specs.declared.Stored.{Stored}
 use Rattle.cb_heap.specs.declared.Ref.{Ref}
 use Rattle.cb_heap.specs.declared.Stored.TheVariants as cell
-use Rattle.cb_heap.specs.Reading.{Reading, CellHolds, CellsHold, IsReading, Agree, AgreeBits, side_by_side, IsUnbound, form_of}
+use Rattle.cb_heap.specs.Reading.{Reading, CellHolds, CellsHold, IsReading, Agree, side_by_side, IsUnbound, form_of}
 
 -- ---- lists
 
@@ -39,16 +39,16 @@ module _ (w : Bits) (cs : List Stored) (g : Reading) (v : ℕ) (c d : Stored) (i
   pub holds-into : CellsHold w cs g → CellHolds w g v c → CellsHold w (slice_set cs v c) g
   holds-into h new r e at = elim (cases_eq r v) [
     | inl same ↦
-      let one : slice_get (slice_set cs v c) r ≡ Some c = subst (λ q. slice_get (slice_set cs v c) q ≡ Some c) (sym same) (get-set-same cs v d c is) in
-      subst (λ q. CellHolds w g q e) (sym same) (subst (λ q. CellHolds w g v q) (some-inj c e (sym one ∙ at)) new)
+        let one : slice_get (slice_set cs v c) r ≡ Some c = subst (λ q. slice_get (slice_set cs v c) q ≡ Some c) (sym same) (get-set-same cs v d c is) in
+        subst (λ q. CellHolds w g q e) (sym same) (subst (λ q. CellHolds w g v q) (some-inj c e (sym one ∙ at)) new)
     | inr other ↦ h r e (sym (get-set-other cs v r c other) ∙ at)
   ]
 
   pub holds-back : CellsHold w (slice_set cs v c) g → CellHolds w g v d → CellsHold w cs g
   holds-back h old r e at = elim (cases_eq r v) [
     | inl same ↦
-      let one : slice_get cs r ≡ Some d = subst (λ q. slice_get cs q ≡ Some d) (sym same) is in
-      subst (λ q. CellHolds w g q e) (sym same) (subst (λ q. CellHolds w g v q) (some-inj d e (sym one ∙ at)) old)
+        let one : slice_get cs r ≡ Some d = subst (λ q. slice_get cs q ≡ Some d) (sym same) is in
+        subst (λ q. CellHolds w g q e) (sym same) (subst (λ q. CellHolds w g v q) (some-inj d e (sym one ∙ at)) old)
     | inr other ↦ h r e (get-set-other cs v r c other ∙ at)
   ]
 

@@ -3,14 +3,14 @@ use Rattle.std.specs.Prelude.{◌≡◌, ◌≢◌, ℕ, ◌<◌, List, length, 
 use Rattle.cb_model.specs.declared.Sort.{Sort}
 use Rattle.cb_model.specs.declared.Sort.TheVariants as sort
 use Rattle.cb_model.specs.Bits.{Bits}
-use Rattle.cb_model.specs.Values.{Ground, Sorts, Fits}
+use Rattle.cb_model.specs.Values.{Sorts, Fits}
 use Rattle.cb_model.specs.Derivation.{outermost}
 use Rattle.cb_heap.specs.declared.Stored.{Stored}
 use Rattle.cb_heap.specs.declared.Stored.TheVariants as cell
 use Rattle.cb_heap.specs.Reading.{Reading, CellsHold, IsReading, IsUnbound}
 use Rattle.cb_heap.specs.Finite.{AllFinite, IsSorted}
 use Rattle.cb_heap.specs.Below.{IsBelow}
-use Rattle.cb_heap.specs.Links.{IsLinked, link_of}
+use Rattle.cb_heap.specs.Links.{link_of}
 use Rattle.cb_heap.specs.Heap.{Terms, IsHeap}
 
 -- the values of the unbound cells are these

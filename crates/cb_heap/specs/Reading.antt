@@ -1,10 +1,9 @@
 -- Values of the cells of a heap, by single assignments and ground values.
-use Rattle.std.specs.Prelude.{◌≡◌, ◌≢◌, ◌⊎◌, ℕ, zero, suc, ◌+◌, ◌<◌, Bool, List, [], ◌∷◌, map, Option, Some, None, slice_get}
+use Rattle.std.specs.Prelude.{◌≡◌, ℕ, zero, suc, Bool, List, [], ◌∷◌, map, Option, Some, None, slice_get}
 use Rattle.cb_model.specs.Derivation.{Outermost, ABit, Empty, NotEmpty, AnInt, ANode}
 use Rattle.cb_model.specs.declared.Sort.{Sort}
-use Rattle.cb_model.specs.declared.Sort.TheVariants as sort
 use Rattle.cb_model.specs.Bits.{Bits, Each, numbers_from}
-use Rattle.cb_model.specs.Values.{Ground, Bit, Word, Int, Name, Grounds, grounds, Sorts, Fits}
+use Rattle.cb_model.specs.Values.{Ground, Bit, Word, Int, Name, grounds, Sorts, Fits}
 use Rattle.cb_heap.specs.declared.Stored.{Stored}
 use Rattle.cb_heap.specs.declared.Stored.TheVariants as cell
 

@@ -205,12 +205,7 @@ impl Heap {
         requires there { place.0 < length self.now.cells }
         ensures { IfOk result (λ b. IsTrue b ↔ IsBelow self.now.cells place.0 var.0) }
     {
-        is_below(
-            *self.cells.allocator(),
-            &self.cells,
-            place.0,
-            var.0,
-        )
+        is_below(*self.cells.allocator(), &self.cells, place.0, var.0)
     }
 
     /// Binds a variable, so that its value is that of the other cell. Of two unbound variables the younger leads to the

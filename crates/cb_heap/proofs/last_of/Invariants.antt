@@ -1,4 +1,4 @@
-use Rattle.std.proofs.Common.{◌≡◌, ℕ, ◌<◌, length}
+use Rattle.std.proofs.Common.{◌<◌, length}
 use Rattle.cb_heap.specs.Links.{chain, LeadsTo}
 use Rattle.cb_heap.proofs.last_of.Given as goal
 

@@ -1,8 +1,6 @@
 use Rattle.std.proofs.Common.{◌≡◌, [], ◌∷◌, ◌++◌, length, sym, subst, rules}
-use Rattle.cb_model.specs.declared.Sort.{Sort}
-use Rattle.cb_heap.specs.declared.Stored.{Stored}
 use Rattle.cb_heap.specs.Finite.{AllFinite, IsFinite}
-use Rattle.cb_heap.specs.Heap.{Terms, IsAddable, IsHeap, sort_of, stored_as, with_cell}
+use Rattle.cb_heap.specs.Heap.{Terms, IsAddable, IsHeap, sort_of, stored_as}
 use Rattle.cb_heap.proofs.Adding.{finite-cell, heap-cell}
 use Rattle.cb_heap.proofs.Inside.{seen}
 use Rattle.cb_heap.proofs.Heap.add.Goals as goal

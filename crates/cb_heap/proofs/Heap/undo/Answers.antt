@@ -1,6 +1,6 @@
 use Rattle.std.proofs.Common.{◌≡◌, take, drop, subst, sym, ◌∙◌, arith}
 use Rattle.std.proofs.lemmas.Grind.{common_steps}
-use Rattle.cb_heap.specs.Heap.{Terms, IsHeap}
+use Rattle.cb_heap.specs.Heap.{IsHeap}
 use Rattle.cb_heap.specs.Moments.{Moment, undone}
 use Rattle.cb_heap.proofs.Inside.{seen}
 use Rattle.cb_heap.proofs.Back.{undo-is, back-to, keeps-back}

@@ -1,6 +1,6 @@
-use Rattle.std.proofs.Common.{rules, arith, ◌≡◌, ◌+◌, ◌<◌, ◌≤◌, ℕ, length, Some, None, true, false, refl, sym, subst, ◌∙◌}
-use Rattle.std.specs.Prelude.{slice_get, get_or}
-use Rattle.std.proofs.lemmas.Bool.{eqb-true, eqb-false, true≢false}
+use Rattle.std.proofs.Common.{rules, arith, ◌≡◌, ◌<◌, ◌≤◌, length, Some, None, refl, sym, subst}
+use Rattle.std.specs.Prelude.{slice_get}
+use Rattle.std.proofs.lemmas.Bool.{true≢false}
 use Rattle.std.proofs.lemmas.Option.{slice_get_within, slice_get-get_or}
 use Rattle.cb_heap.specs.declared.Stored.TheVariants as cell
 use Rattle.cb_heap.specs.Below.{IsBelow}
@@ -24,10 +24,11 @@ offset_bounds-cells-at c =
 
 pub returns-then-at-to : goal.returns-then-at-to
 returns-then-at-to c =
-    let at : slice_get c.cells.met.keys c.cells.done ≡ Some c.in-Some.at = search rules in
-    (λ _. subst (λ x. IsBelow c.args.cells.now c.args.from x) (eqb-true c.in-Some.at c.args.to c.if-at-to.true)
-      (searching-at c.args.cells.now c.args.from c.args.to c.cells.met.keys c.cells.done c.in-Some.at c.cells.invariant at).0,
-      λ _. refl)
+    let at : slice_get c.cells.met.keys c.cells.done ≡ Some c.in-Some.at = search rules in (
+      λ _. subst (λ x. IsBelow c.args.cells.now c.args.from x) c.if-at-to.true
+          (searching-at c.args.cells.now c.args.from c.args.to c.cells.met.keys c.cells.done c.in-Some.at c.cells.invariant at).0,
+      λ _. refl,
+    )
 
 pub meet-requires-clause-small : goal.meet-requires-clause-small
 meet-requires-clause-small c j n =
@@ -55,10 +56,11 @@ cells-preserved c =
     let at : slice_get c.cells.met.keys c.cells.done ≡ Some c.in-Some.at = search rules in
     let less : c.in-Some.at < length c.args.cells.now = (searching-at c.args.cells.now c.args.from c.args.to c.cells.met.keys c.cells.done c.in-Some.at c.cells.invariant at).1 in
     searching-step c.args.cells.now c.requires.linked c.args.from c.args.to c.cells.met.keys c.meet.new.met.keys c.cells.done c.in-Some.at _ c.cells.invariant at (slice_get-get_or c.args.cells.now c.in-Some.at (cell.Leaf 0) less)
-    (eqb-false c.in-Some.at c.args.to c.if-at-to.false) c.in_ok-meet.ensures.meets
+    c.if-at-to.false c.in_ok-meet.ensures.meets
 
 pub returns : goal.returns
 returns c =
-    let none : slice_get c.cells.met.keys c.cells.done ≡ None = search rules in
-    (λ e. absurd (true≢false (sym e)),
-      λ b. absurd (searched c.args.cells.now c.args.from c.args.to c.cells.met.keys c.cells.done c.cells.invariant (past-none c.cells.met.keys c.cells.done none) b))
+    let none : slice_get c.cells.met.keys c.cells.done ≡ None = search rules in (
+      λ e. absurd (true≢false (sym e)),
+      λ b. absurd (searched c.args.cells.now c.args.from c.args.to c.cells.met.keys c.cells.done c.cells.invariant (past-none c.cells.met.keys c.cells.done none) b),
+    )

@@ -1,4 +1,4 @@
-use Rattle.std.proofs.Common.{◌≡◌, ◌+◌, ◌<◌, ◌≤◌, ◌^◌, ℕ, zero, suc, sym, subst, arith}
+use Rattle.std.proofs.Common.{◌≡◌, ◌<◌, ◌^◌, ℕ, sym, subst}
 use Rattle.cb_heap.specs.Finite.{Names}
 use Rattle.cb_heap.specs.Below.{Meets}
 use Rattle.cb_heap.proofs.Search.{behind-small, meets-one, meets-then}

@@ -1,4 +1,4 @@
-use Rattle.std.proofs.Common.{◌≡◌, ℕ, ◌++◌, take, map, length}
+use Rattle.std.proofs.Common.{◌≡◌, ◌++◌, take, map}
 use Rattle.std.specs.Prelude.{get_or}
 use Rattle.cb_model.specs.declared.Sort.TheVariants as sort
 use Rattle.cb_heap.specs.declared.Ref.{Ref}
