@@ -1,8 +1,10 @@
 -- The nodes of expressions.
-use Rattle.std.proofs.Common.{◌≡◌, inl, ℕ, zero, suc, ◌+◌, ◌*◌, ◌<◌, ◌≤◌, Bool, true, false, not, ◌&&◌, ◌||◌, List, [], ◌∷◌, ◌++◌, map, length, get_or, take, sum, Option, Some, None, refl, sym, ◌∙◌, ap, ap₂, subst, arith}
-use Rattle.std.proofs.lemmas.List.{map_more}
-use Rattle.std.proofs.lemmas.List.Sums.{sum-map, sum_by_more_le}
+use Rattle.std.proofs.Common.{◌≡◌, inl, ℕ, zero, suc, ◌+◌, ◌-◌, ◌*◌, ◌/◌, ◌<◌, ◌≤◌, Bool, true, false, not, ◌&&◌, ◌||◌, List, [], ◌∷◌, ◌++◌, map, length, get_or, take, drop, sum, Option, Some, None, refl, sym, ◌∙◌, ap, ap₂, subst, arith}
+use Rattle.std.proofs.lemmas.List.{length-drop, length-map, length-take-le, map-append, take-append-drop}
+use Rattle.std.proofs.lemmas.List.Sums.{sum-map, sum_by-append, sum_by_more_le}
+use Rattle.std.specs.List.{sum_by}
 use Rattle.std.proofs.Math.Path.{fun_ext}
+use Rattle.std.proofs.Math.Seq.{take-length}
 use Rattle.std.specs.Option.{option_map_or}
 use Rattle.cb_model.specs.declared.Expr.{Expr}
 use Rattle.cb_model.specs.declared.Expr.TheOpen.{Expr-F}
@@ -110,11 +112,6 @@ xor-last [] true = refl
 xor-last [] false = refl
 xor-last (x ∷ xs) y = ap (xor x) (xor-last xs y) ∙ xor-assoc x (odd_of xs) y
 
-chain-last : (o : Operator) (xs : List Bool) (y : Bool) → chain_value o (xs ++ y ∷ []) ≡ operator_value o (chain_value o xs) y
-chain-last operator.And xs y = and-last xs y
-chain-last operator.Or xs y = or-last xs y
-chain-last operator.Xor xs y = xor-last xs y
-
 -- the variables' bits stay when nodes are added
 bits-at : (s t : Store) → Grows s t → (ns : List Node) → AreThere s.triples ns → (o : Option Slot) (a : Bits) →
     option_map_or (λ (x : Slot). value_in t.triples ns x.0 a) o false ≡ option_map_or (λ (x : Slot). value_in s.triples ns x.0 a) o false
@@ -124,34 +121,38 @@ bits-at s t g ns there (Some x) a = ap (λ (f : Function). f a) (value-still s t
 pub bits-still : (s t : Store) → Grows s t → (ns : List Node) → AreThere s.triples ns → (vars : List (Option Slot)) (a : Bits) → variable_bits t.triples ns vars a ≡ variable_bits s.triples ns vars a
 bits-still s t g ns there vars a = fun_ext (λ n. bits-at s t g ns there (get_or vars n None) a)
 
--- one operand more
-pub operands-next : (s t u v : Store) (st : Grows s t) (tu : Grows t u) (ns : List Node) (there : AreThere s.triples ns) (vars : List (Option Slot)) (o : Operator) (xs : List Expr) (i : ℕ) (x : Expr) (node next r : ℕ) →
-    i < length xs → x ≡ get_or xs i x → IsNode t.triples node →
-    ((a : Bits) → function_of t.triples node a ≡ chain_value o (map (expr_value a (variable_bits s.triples ns vars a)) (take i xs))) →
-    ((a : Bits) → function_of u.triples next a ≡ expr_value a (variable_bits t.triples ns vars a) x) →
-    ((a : Bits) → function_of v.triples r a ≡ operator_value o (function_of u.triples node a) (function_of u.triples next a)) →
-    (a : Bits) → function_of v.triples r a ≡ chain_value o (map (expr_value a (variable_bits s.triples ns vars a)) (take (i + 1) xs))
-operands-next s t u v st tu ns there vars o xs i x node next r lt at is before made applied a =
-    let F : Expr → Bool = expr_value a (variable_bits s.triples ns vars a) in
-    applied a
-    ∙ ap₂ (operator_value o)
-    (grown-function t u tu node is a ∙ before a)
-    (made a ∙ ap (λ b. expr_value a b x) (bits-still s t st ns there vars a) ∙ ap F at)
-    ∙ sym (ap (chain_value o) (map_more F xs i x lt) ∙ chain-last o (map F (take i xs)) (F (get_or xs i x)))
+chain-both : (o : Operator) (xs ys : List Bool) → chain_value o (xs ++ ys) ≡ operator_value o (chain_value o xs) (chain_value o ys)
+chain-both operator.And [] ys = refl
+chain-both operator.And (true ∷ xs) ys = chain-both operator.And xs ys
+chain-both operator.And (false ∷ xs) ys = refl
+chain-both operator.Or [] ys = refl
+chain-both operator.Or (true ∷ xs) ys = refl
+chain-both operator.Or (false ∷ xs) ys = chain-both operator.Or xs ys
+chain-both operator.Xor [] ys = refl
+chain-both operator.Xor (x ∷ xs) ys = ap (xor x) (chain-both operator.Xor xs ys) ∙ xor-assoc x (odd_of xs) (odd_of ys)
 
--- the first operand
 chain-one : (o : Operator) (y : Bool) → chain_value o (y ∷ []) ≡ y
 chain-one operator.And y = and-last [] y
 chain-one operator.Or y = or-last [] y
 chain-one operator.Xor y = xor-last [] y
 
-pub operands-first : (s t u : Store) (st : Grows s t) (ns : List Node) (there : AreThere s.triples ns) (vars : List (Option Slot)) (o : Operator) (xs : List Expr) (i : ℕ) (x : Expr) (next : ℕ) →
-    i < length xs → x ≡ get_or xs i x → i ≡ 0 → ((a : Bits) → function_of u.triples next a ≡ expr_value a (variable_bits t.triples ns vars a) x) →
-    (a : Bits) → function_of u.triples next a ≡ chain_value o (map (expr_value a (variable_bits s.triples ns vars a)) (take (i + 1) xs))
-operands-first s t u st ns there vars o xs i x next lt at none made a =
+-- two halves of the operands
+pub operands-both : (s t u v : Store) (st : Grows s t) (tu : Grows t u) (ns : List Node) (there : AreThere s.triples ns) (vars : List (Option Slot)) (o : Operator) (xs low high : List Expr) (left right r : ℕ) → xs ≡ low ++ high → IsNode t.triples left →
+    ((a : Bits) → function_of t.triples left a ≡ chain_value o (map (expr_value a (variable_bits s.triples ns vars a)) low)) →
+    ((a : Bits) → function_of u.triples right a ≡ chain_value o (map (expr_value a (variable_bits t.triples ns vars a)) high)) →
+    ((a : Bits) → function_of v.triples r a ≡ operator_value o (function_of u.triples left a) (function_of u.triples right a)) →
+    (a : Bits) → function_of v.triples r a ≡ chain_value o (map (expr_value a (variable_bits s.triples ns vars a)) xs)
+operands-both s t u v st tu ns there vars o xs low high left right r parts is first second applied a =
     let F : Expr → Bool = expr_value a (variable_bits s.triples ns vars a) in
-    made a ∙ ap (λ b. expr_value a b x) (bits-still s t st ns there vars a) ∙ ap F at
-    ∙ sym (ap (chain_value o) (map_more F xs i x lt ∙ ap (λ j. map F (take j xs) ++ F (get_or xs i x) ∷ []) none) ∙ chain-one o (F (get_or xs i x)))
+    applied a
+    ∙ ap₂ (operator_value o)
+    (grown-function t u tu left is a ∙ first a)
+    (second a ∙ ap (λ b. chain_value o (map (expr_value a b) high)) (bits-still s t st ns there vars a))
+    ∙ sym (ap (λ zs. chain_value o (map F zs)) parts ∙ ap (chain_value o) (map-append F low high) ∙ chain-both o (map F low) (map F high))
+
+-- one operand
+pub operands-one : (ts us : List Triple) (b : Bits → Bits) (o : Operator) (xs : List Expr) (x : Expr) (r : ℕ) → xs ≡ x ∷ [] → ((a : Bits) → function_of us r a ≡ expr_value a (b a) x) → (a : Bits) → function_of us r a ≡ chain_value o (map (expr_value a (b a)) xs)
+operands-one ts us b o xs x r is made a = made a ∙ sym (ap (λ zs. chain_value o (map (expr_value a (b a)) zs)) is ∙ chain-one o (expr_value a (b a) x))
 
 -- ---- variables
 
@@ -207,13 +208,13 @@ expression-argument now s is st t g vars e n scope w made = record {
       (value-argument-of s (store-inside now s is st) vars e (subst (λ (o : Seen). in_scope o.constants (length vars) e ≡ true) (sym is) scope)));
 }
 
--- ---- a measure: the operators and leaves, with one more for each operator
+-- ---- a measure: the operators and leaves, with one more for each operator, and one for each operand
 
 weight_step : Expr-F ℕ → ℕ
 weight_step (Expr-F.Not n) = n + 1
-weight_step (Expr-F.And ns) = sum ns + 1
-weight_step (Expr-F.Xor ns) = sum ns + 1
-weight_step (Expr-F.Or ns) = sum ns + 1
+weight_step (Expr-F.And ns) = sum ns + length ns + 1
+weight_step (Expr-F.Xor ns) = sum ns + length ns + 1
+weight_step (Expr-F.Or ns) = sum ns + length ns + 1
 weight_step _ = 1
 
 pub weight : Expr → ℕ
@@ -225,20 +226,48 @@ weight-not x e y is same =
     let f : weight e ≡ weight x + 1 = ap weight is ∙ ap weight (sym (expr.rolls-Not x)) ∙ fold-roll-Expr ℕ weight_step (Expr-F.Not x) in
     omega (arith, f, ap weight same)
 
-falls_to : (xs ys : List Expr) (n : ℕ) → ys ≡ xs → n ≡ sum (map weight xs) + 1 → 2 * sum (map weight ys) + 1 < 2 * n
-falls_to xs ys n same e = omega (arith, e, ap (λ l. sum (map weight l)) same)
+falls_to : (xs ys : List Expr) (n : ℕ) → ys ≡ xs → n ≡ sum (map weight xs) + length (map weight xs) + 1 → 2 * sum (map weight ys) + length ys < 2 * n
+falls_to xs ys n same e = omega (arith, e, ap (λ l. sum (map weight l)) same, ap length same, length-map xs weight)
 
-pub weight-and : (xs ys : List Expr) (e : Expr) → e ≡ expr.And xs → ys ≡ xs → 2 * sum (map weight ys) + 1 < 2 * weight e
+pub weight-and : (xs ys : List Expr) (e : Expr) → e ≡ expr.And xs → ys ≡ xs → 2 * sum (map weight ys) + length ys < 2 * weight e
 unfolding weight weight_step
 weight-and xs ys e is same = falls_to xs ys (weight e) same (ap weight is ∙ ap weight (sym (expr.rolls-And xs)) ∙ fold-roll-Expr ℕ weight_step (Expr-F.And xs))
 
-pub weight-xor : (xs ys : List Expr) (e : Expr) → e ≡ expr.Xor xs → ys ≡ xs → 2 * sum (map weight ys) + 1 < 2 * weight e
+pub weight-xor : (xs ys : List Expr) (e : Expr) → e ≡ expr.Xor xs → ys ≡ xs → 2 * sum (map weight ys) + length ys < 2 * weight e
 unfolding weight weight_step
 weight-xor xs ys e is same = falls_to xs ys (weight e) same (ap weight is ∙ ap weight (sym (expr.rolls-Xor xs)) ∙ fold-roll-Expr ℕ weight_step (Expr-F.Xor xs))
 
-pub weight-or : (xs ys : List Expr) (e : Expr) → e ≡ expr.Or xs → ys ≡ xs → 2 * sum (map weight ys) + 1 < 2 * weight e
+pub weight-or : (xs ys : List Expr) (e : Expr) → e ≡ expr.Or xs → ys ≡ xs → 2 * sum (map weight ys) + length ys < 2 * weight e
 unfolding weight weight_step
 weight-or xs ys e is same = falls_to xs ys (weight e) same (ap weight is ∙ ap weight (sym (expr.rolls-Or xs)) ∙ fold-roll-Expr ℕ weight_step (Expr-F.Or xs))
 
-pub weight-at : (es : List Expr) (i : ℕ) (e : Expr) → i < length es → e ≡ get_or es i e → 2 * weight e < 2 * sum (map weight es) + 1
+pub weight-at : (es : List Expr) (i : ℕ) (e : Expr) → i < length es → e ≡ get_or es i e → 2 * weight e < 2 * sum (map weight es) + length es
 weight-at es i e lt is = omega (arith, sum-map weight es, sum_by_more_le weight es i e lt, ap weight is)
+
+-- the halves of a list
+weight-parts : (xs : List Expr) (k : ℕ) → sum (map weight (take k xs)) + sum (map weight (drop k xs)) ≡ sum (map weight xs)
+weight-parts xs k = omega (arith, sum-map weight xs, sum-map weight (take k xs), sum-map weight (drop k xs), sum_by-append weight (take k xs) (drop k xs), ap (λ ys. sum_by weight ys) (take-append-drop k xs))
+
+pub weight-low : (xs : List Expr) (k : ℕ) → k < length xs → 2 * sum (map weight (take k xs)) + length (take k xs) < 2 * sum (map weight xs) + length xs
+weight-low xs k h = let r = weight-parts xs k in omega (arith, length-take-le k xs (let le : k ≤ length xs = omega arith in le))
+
+pub weight-high : (xs : List Expr) (k : ℕ) → 0 < k → k ≤ length xs → 2 * sum (map weight (drop k xs)) + length (drop k xs) < 2 * sum (map weight xs) + length xs
+weight-high xs k pos h = let r = weight-parts xs k in omega (arith, length-drop k xs)
+
+-- the parts of a list as the code takes them
+pub half-some : (n : ℕ) → 2 ≤ n → 0 < n / 2
+half-some n h = omega arith
+
+pub half-less : (n : ℕ) → 2 ≤ n → n / 2 < n
+half-less n h = omega arith
+
+pub parts-are : (xs : List Expr) (k : ℕ) → xs ≡ take k xs ++ take (length xs - k) (drop k xs)
+parts-are xs k = sym (ap (λ ys. take k xs ++ ys) (ap (λ n. take n (drop k xs)) (sym (length-drop k xs)) ∙ take-length (drop k xs)) ∙ take-append-drop k xs)
+
+pub high-is : (xs : List Expr) (k : ℕ) → take (length xs - k) (drop k xs) ≡ drop k xs
+high-is xs k = ap (λ n. take n (drop k xs)) (sym (length-drop k xs)) ∙ take-length (drop k xs)
+
+pub single : (xs : List Expr) (x : Expr) → 1 ≤ length xs → length xs < 2 → x ≡ get_or xs 0 x → xs ≡ x ∷ []
+single [] x h less e = absurd (omega arith)
+single (y ∷ []) x h less e = ap (λ z. z ∷ []) (sym e)
+single (y ∷ (z ∷ zs)) x h less e = absurd (omega arith)

@@ -1,9 +1,8 @@
 -- How many nodes an expression adds.
-use Rattle.std.proofs.Common.{◌≡◌, ℕ, zero, suc, ◌+◌, ◌-◌, ◌*◌, ◌^◌, min, ◌<◌, ◌≤◌, Bool, true, false, ◌&&◌, nat_eq, List, [], ◌∷◌, length, map, take, get_or, sum, Option, Some, None, Result, Err, refl, sym, ap, subst, ◌∙◌, arith}
-use Rattle.std.proofs.lemmas.Bool.{eq-eqb, eqb-true, ne_eqb, true≢false}
+use Rattle.std.proofs.Common.{◌≡◌, ℕ, zero, suc, ◌+◌, ◌-◌, ◌*◌, ◌^◌, min, ◌<◌, ◌≤◌, Bool, true, false, ◌&&◌, List, [], ◌∷◌, ◌++◌, length, map, get_or, sum, Option, Some, None, Result, Err, refl, sym, ap, subst, ◌∙◌, arith}
 use Rattle.std.proofs.lemmas.Nat.{pow_pos}
-use Rattle.std.proofs.lemmas.List.{length-map}
-use Rattle.std.proofs.lemmas.List.Sums.{sum-map, sum_by_more, sum_by_more_le}
+use Rattle.std.proofs.lemmas.List.{length-append, length-map}
+use Rattle.std.proofs.lemmas.List.Sums.{sum-map, sum_by-append}
 use Rattle.std.proofs.Math.Nat.{mul-le-mul_right}
 use Rattle.std.specs.Option.{option_map_or}
 use Rattle.cb_model.specs.declared.Expr.{Expr}
@@ -110,22 +109,21 @@ module _ (ts : List Triple) (ns : List Node) (vars : List (Option Slot)) (c : �
   alike e scope a b h =
       depends c (length vars) a b (variable_bits ts ns vars a) (variable_bits ts ns vars b) (λ k w. agree-at ls a b h k (levels.constants k w)) (λ n w. slot-alike ts ns ls levels.slots a b h (get_or vars n None)) e scope
 
-  all-alike : (xs : List Expr) (i : ℕ) → all_of (map (in_scope c (length vars)) xs) ≡ true → (a b : Bits) → Agree ls a b →
-      map (expr_value a (variable_bits ts ns vars a)) (take i xs) ≡ map (expr_value b (variable_bits ts ns vars b)) (take i xs)
-  all-alike xs zero scope a b h = refl
-  all-alike [] (suc i) scope a b h = refl
-  all-alike (x ∷ xs) (suc i) scope a b h =
+  all-alike : (xs : List Expr) → all_of (map (in_scope c (length vars)) xs) ≡ true → (a b : Bits) → Agree ls a b →
+      map (expr_value a (variable_bits ts ns vars a)) xs ≡ map (expr_value b (variable_bits ts ns vars b)) xs
+  all-alike [] scope a b h = refl
+  all-alike (x ∷ xs) scope a b h =
       let first = alike x (left (in_scope c (length vars) x) (all_of (map (in_scope c (length vars)) xs)) scope) a b h in
-      let others = all-alike xs i (right (in_scope c (length vars) x) (all_of (map (in_scope c (length vars)) xs)) scope) a b h in
+      let others = all-alike xs (right (in_scope c (length vars) x) (all_of (map (in_scope c (length vars)) xs)) scope) a b h in
       (λ j. first j ∷ others j)
 
   -- a node with the value of an expression, and one with that of a connective of the first expressions
   node-within : (us : List Triple) (n : ℕ) (e : Expr) → in_scope c (length vars) e ≡ true → ((a : Bits) → function_of us n a ≡ expr_value a (variable_bits ts ns vars a) e) → DependsOn us n ls
   node-within us n e scope is = record { agrees = λ a b h. is a ∙ alike e scope a b h ∙ sym (is b) }
 
-  chain-within : (us : List Triple) (n : ℕ) (o : Operator) (xs : List Expr) (i : ℕ) → all_of (map (in_scope c (length vars)) xs) ≡ true →
-      ((a : Bits) → function_of us n a ≡ chain_value o (map (expr_value a (variable_bits ts ns vars a)) (take i xs))) → DependsOn us n ls
-  chain-within us n o xs i scope is = record { agrees = λ a b h. is a ∙ ap (chain_value o) (all-alike xs i scope a b h) ∙ sym (is b) }
+  chain-within : (us : List Triple) (n : ℕ) (o : Operator) (xs : List Expr) → all_of (map (in_scope c (length vars)) xs) ≡ true →
+      ((a : Bits) → function_of us n a ≡ chain_value o (map (expr_value a (variable_bits ts ns vars a)) xs)) → DependsOn us n ls
+  chain-within us n o xs scope is = record { agrees = λ a b h. is a ∙ ap (chain_value o) (all-alike xs scope a b h) ∙ sym (is b) }
 
 -- the levels are still all when nodes are added
 levels-still : (s t : Store) → Grows s t → (ns : List Node) → AreThere s.triples ns → (c : ℕ) (ls : List ℕ) → AreLevels s.triples c ns ls → AreLevels t.triples c ns ls
@@ -182,92 +180,82 @@ module _ (ns : List Node) (v : ℕ) (e : Expr) (xs ys : List Expr) (same : ys �
 pub twice : (f g : ℕ) (s t : Store) → Room (f ∷ g ∷ []) 1 s t → Room (f ∷ g ∷ []) 2 s t
 twice f g s t r = record { most = λ ls d. let m = r.most ls d in let p : 1 ≤ 2 ^ length ls = pow_pos (length ls) in omega arith }
 
--- the first expressions are done
-pub record ChainSo (i : ℕ) (ns : List Node) (v : ℕ) (xs : List Expr) (old new : Store) : Type 0 where
-  pub most : (c : ℕ) (ls : List ℕ) → all_of (map (in_scope c v) xs) ≡ true → AreLevels old.triples c ns ls → length new.triples ≤ length old.triples + 2 * (sum (map expr_size (take i xs)) + (i - 1)) * 2 ^ length ls
-
-pub chain-none : (ns : List Node) (v : ℕ) (xs : List Expr) (s : Store) → ChainSo 0 ns v xs s s
-chain-none ns v xs s = record { most = λ c ls scope w. omega arith }
-
-sum-next : (xs : List Expr) (i : ℕ) (x : Expr) → i < length xs → x ≡ get_or xs i x → sum (map expr_size (take (i + 1) xs)) ≡ sum (map expr_size (take i xs)) + expr_size x
-sum-next xs i x lt at = omega (arith, sum-map expr_size (take (i + 1) xs), sum-map expr_size (take i xs), sum_by_more expr_size xs i x lt, ap expr_size at)
-
-sum-within : (xs : List Expr) (i : ℕ) (x : Expr) → i < length xs → x ≡ get_or xs i x → sum (map expr_size (take i xs)) + expr_size x ≤ sum (map expr_size xs)
-sum-within xs i x lt at = omega (arith, sum-map expr_size xs, sum-map expr_size (take i xs), sum_by_more_le expr_size xs i x lt, ap expr_size at)
-
 -- products of a bound
 scaled : (n a b k x : ℕ) → k ≤ n + 2 * a * x → a ≤ b → k ≤ n + 2 * b * x
 scaled n a b k x h le = let p : 2 * a * x ≤ 2 * b * x = mul-le-mul_right x (let q : 2 * a ≤ 2 * b = omega arith in q) in omega arith
 
-module _ (ns : List Node) (vars : List (Option Slot)) (xs : List Expr) (i : ℕ) (x : Expr) (lt : i < length xs) (at : x ≡ get_or xs i x) (s t u : Store) (st : Grows s t) (tu : Grows t u) (there : AreThere s.triples ns)
-    (before : ChainSo i ns (length vars) xs s t) (one : ExprRoom ns (length vars) x t u) where
-  with-next : (c : ℕ) (ls : List ℕ) → all_of (map (in_scope c (length vars)) xs) ≡ true → AreLevels s.triples c ns ls →
-      length u.triples ≤ length s.triples + 2 * (sum (map expr_size (take i xs)) + expr_size x + (i - 1)) * 2 ^ length ls
-  with-next c ls scope w =
-      let m = before.most c ls scope w in
-      let n = one.most c ls (scope-at c (length vars) xs i x lt at scope) (levels-still s t st ns there c ls w) in
-      omega arith
+size-parts : (xs ys : List Expr) → sum (map expr_size (xs ++ ys)) ≡ sum (map expr_size xs) + sum (map expr_size ys)
+size-parts xs ys = omega (arith, sum-map expr_size (xs ++ ys), sum-map expr_size xs, sum-map expr_size ys, sum_by-append expr_size xs ys)
 
-  -- after a stop in the next expression
-  pub chain-stop : ChainRoom ns (length vars) xs s u
-  chain-stop = record {
-    most = λ c ls scope w. scaled (length s.triples) (sum (map expr_size (take i xs)) + expr_size x + (i - 1)) (sum (map expr_size xs) + (length xs - 1)) (length u.triples) (2 ^ length ls) (with-next c ls scope w) (let q = sum-within xs i x lt at in omega arith);
-  }
+scope-low : (c v : ℕ) (xs ys : List Expr) → all_of (map (in_scope c v) (xs ++ ys)) ≡ true → all_of (map (in_scope c v) xs) ≡ true
+scope-low c v [] ys h = refl
+scope-low c v (x ∷ xs) ys h =
+    let first = left (in_scope c v x) (all_of (map (in_scope c v) (xs ++ ys))) h in
+    ap (λ b. b && all_of (map (in_scope c v) xs)) first ∙ scope-low c v xs ys (right (in_scope c v x) (all_of (map (in_scope c v) (xs ++ ys))) h)
 
-  -- the first expression
-  pub chain-first : i ≡ 0 → ChainSo (i + 1) ns (length vars) xs s u
-  chain-first z = record {
-    most = λ c ls scope w. scaled (length s.triples) (sum (map expr_size (take i xs)) + expr_size x + (i - 1)) (sum (map expr_size (take (i + 1) xs)) + (i + 1 - 1)) (length u.triples) (2 ^ length ls) (with-next c ls scope w) (let q = sum-next xs i x lt at in omega arith);
-  }
+scope-high : (c v : ℕ) (xs ys : List Expr) → all_of (map (in_scope c v) (xs ++ ys)) ≡ true → all_of (map (in_scope c v) ys) ≡ true
+scope-high c v [] ys h = h
+scope-high c v (x ∷ xs) ys h = scope-high c v xs ys (right (in_scope c v x) (all_of (map (in_scope c v) (xs ++ ys))) h)
 
-  module _ (v : Store) (o : Operator) (node next : ℕ) (wn : IsNode t.triples node)
-      (is_node : (a : Bits) → function_of t.triples node a ≡ chain_value o (map (expr_value a (variable_bits s.triples ns vars a)) (take i xs)))
-      (is_next : (a : Bits) → function_of u.triples next a ≡ expr_value a (variable_bits t.triples ns vars a) x)
-      (two : Room (node ∷ next ∷ []) 2 u v) (more : 0 < i) where
-    with-both : (c : ℕ) (ls : List ℕ) → all_of (map (in_scope c (length vars)) xs) ≡ true → AreLevels s.triples c ns ls →
-        length v.triples ≤ length s.triples + 2 * (sum (map expr_size (take i xs)) + expr_size x + i) * 2 ^ length ls
-    with-both c ls scope w =
-        let m = with-next c ls scope w in
-        let r = two.most ls (
-          chain-within s.triples ns vars c ls w u.triples node o xs i scope (λ a. grown-function t u tu node wn a ∙ is_node a),
-          (node-within t.triples ns vars c ls (levels-still s t st ns there c ls w) u.triples next x (scope-at c (length vars) xs i x lt at scope) is_next, tt),
-        ) in
-        let e : sum (map expr_size (take i xs)) + expr_size x + i ≡ sum (map expr_size (take i xs)) + expr_size x + (i - 1) + 1 = omega arith in
-        subst (λ n. length v.triples ≤ length s.triples + 2 * n * 2 ^ length ls) (sym e) (omega arith)
+-- no operand, and one
+pub chain-none : (ns : List Node) (v : ℕ) (xs : List Expr) (s : Store) → ChainRoom ns v xs s s
+chain-none ns v xs s = record { most = λ c ls scope w. omega arith }
 
-    -- after a stop in the connective
-    pub chain-full : ChainRoom ns (length vars) xs s v
-    chain-full = record {
-      most = λ c ls scope w. scaled (length s.triples) (sum (map expr_size (take i xs)) + expr_size x + i) (sum (map expr_size xs) + (length xs - 1)) (length v.triples) (2 ^ length ls) (with-both c ls scope w) (let q = sum-within xs i x lt at in omega arith);
+pub chain-one : (ns : List Node) (v : ℕ) (xs : List Expr) (x : Expr) (s t : Store) → xs ≡ x ∷ [] → ExprRoom ns v x s t → ChainRoom ns v xs s t
+chain-one ns v xs x s t is room = subst (λ (ys : List Expr). ChainRoom ns v ys s t) (sym is) (record {
+  most = λ c ls scope w.
+      let m = room.most c ls (left (in_scope c v x) true scope) w in
+      scaled (length s.triples) (expr_size x) (sum (map expr_size (x ∷ [])) + (length (x ∷ []) - 1)) (length t.triples) (2 ^ length ls) m (omega arith);
+})
+
+pub one-some : (xs : List Expr) (x : Expr) → xs ≡ x ∷ [] → 0 < expr_size x → 0 < chain_size xs
+one-some xs x is h = subst (λ ys. 0 < chain_size ys) (sym is) (omega arith)
+
+-- two halves
+module _ (ns : List Node) (vars : List (Option Slot)) (xs low high : List Expr) (parts : xs ≡ low ++ high) (some_low : 0 < length low) (some_high : 0 < length high) where
+  long : length xs ≡ length low + length high
+  long = ap length parts ∙ length-append low high
+
+  sizes : sum (map expr_size xs) ≡ sum (map expr_size low) + sum (map expr_size high)
+  sizes = ap (λ ys. sum (map expr_size ys)) parts ∙ size-parts low high
+
+  pub halves-some : 0 < chain_size xs
+  halves-some = let n = long in omega arith
+
+  module _ (s t : Store) (first : ChainRoom ns (length vars) low s t) where
+    pub low-room : ChainRoom ns (length vars) xs s t
+    low-room = record {
+      most = λ c ls scope w.
+          let m = first.most c ls (scope-low c (length vars) low high (subst (λ ys. all_of (map (in_scope c (length vars)) ys) ≡ true) parts scope)) w in
+          scaled (length s.triples) (chain_size low) (chain_size xs) (length t.triples) (2 ^ length ls) m (let n = long in let z = sizes in omega arith);
     }
 
-    pub chain-next : ChainSo (i + 1) ns (length vars) xs s v
-    chain-next = record {
-      most = λ c ls scope w. scaled (length s.triples) (sum (map expr_size (take i xs)) + expr_size x + i) (sum (map expr_size (take (i + 1) xs)) + (i + 1 - 1)) (length v.triples) (2 ^ length ls) (with-both c ls scope w) (let q = sum-next xs i x lt at in omega arith);
-    }
+    module _ (u : Store) (st : Grows s t) (there : AreThere s.triples ns) (second : ChainRoom ns (length vars) high t u) where
+      two : (c : ℕ) (ls : List ℕ) → all_of (map (in_scope c (length vars)) xs) ≡ true → AreLevels s.triples c ns ls → length u.triples ≤ length s.triples + 2 * (chain_size low + chain_size high) * 2 ^ length ls
+      two c ls scope w =
+          let parted = subst (λ ys. all_of (map (in_scope c (length vars)) ys) ≡ true) parts scope in
+          let m = first.most c ls (scope-low c (length vars) low high parted) w in
+          let n = second.most c ls (scope-high c (length vars) low high parted) (levels-still s t st ns there c ls w) in
+          omega arith
 
--- the mark of the first expression
-pub is-first : (i : ℕ) (b : Bool) → b ≡ nat_eq i 0 → b ≡ true → i ≡ 0
-is-first i b e h = eqb-true i 0 (sym e ∙ h)
+      pub both-room : ChainRoom ns (length vars) xs s u
+      both-room = record {
+        most = λ c ls scope w. scaled (length s.triples) (chain_size low + chain_size high) (chain_size xs) (length u.triples) (2 ^ length ls) (two c ls scope w) (let n = long in let z = sizes in omega arith);
+      }
 
-pub is-later : (i : ℕ) (b : Bool) → b ≡ nat_eq i 0 → b ≡ false → 0 < i
-is-later zero b e h = absurd (true≢false (sym (eq-eqb 0 0 refl) ∙ sym e ∙ h))
-is-later (suc i) b e h = omega arith
-
-pub not-first-next : (i : ℕ) → false ≡ nat_eq (i + 1) 0
-not-first-next i = sym (ne_eqb (i + 1) 0 (λ e. omega arith))
-
-pub chain-some : (xs : List Expr) (i : ℕ) (x : Expr) → i < length xs → x ≡ get_or xs i x → 0 < expr_size x → 0 < chain_size xs
-chain-some xs i x lt at h = let q = sum-within xs i x lt at in omega arith
-
-pub chain-end : (ns : List Node) (v : ℕ) (xs : List Expr) (i : ℕ) (s t : Store) → i ≡ length xs → ChainSo i ns v xs s t → ChainRoom ns v xs s t
-chain-end ns v xs i s t e so = record {
-  most = λ c ls scope w. subst (λ (ys : List Expr). length t.triples ≤ length s.triples + 2 * (sum (map expr_size ys) + (length xs - 1)) * 2 ^ length ls) (take-whole xs) (subst (λ k. length t.triples ≤ length s.triples + 2 * (sum (map expr_size (take k xs)) + (k - 1)) * 2 ^ length ls) e (so.most c ls scope w));
-}
-  where
-    take-whole : (ys : List Expr) → take (length ys) ys ≡ ys
-    take-whole [] = refl
-    take-whole (y ∷ ys) = ap (λ zs. y ∷ zs) (take-whole ys)
+      module _ (v : Store) (tu : Grows t u) (o : Operator) (l r : ℕ) (wl : IsNode t.triples l) (is_l : (a : Bits) → function_of t.triples l a ≡ chain_value o (map (expr_value a (variable_bits s.triples ns vars a)) low))
+          (is_r : (a : Bits) → function_of u.triples r a ≡ chain_value o (map (expr_value a (variable_bits t.triples ns vars a)) high)) (last : Room (l ∷ r ∷ []) 2 u v) where
+        pub halves-room : ChainRoom ns (length vars) xs s v
+        halves-room = record {
+          most = λ c ls scope w.
+              let parted = subst (λ ys. all_of (map (in_scope c (length vars)) ys) ≡ true) parts scope in
+              let m = two c ls scope w in
+              let q = last.most ls (
+                chain-within s.triples ns vars c ls w u.triples l o low (scope-low c (length vars) low high parted) (λ a. grown-function t u tu l wl a ∙ is_l a),
+                (chain-within t.triples ns vars c ls (levels-still s t st ns there c ls w) u.triples r o high (scope-high c (length vars) low high parted) is_r, tt),
+              ) in
+              scaled (length s.triples) (chain_size low + chain_size high + 1) (chain_size xs) (length v.triples) (2 ^ length ls) (omega arith) (let n = long in let z = sizes in omega arith);
+        }
 
 -- ---- the cause of a stop
 

@@ -122,7 +122,8 @@ pub(crate) fn expression(
     }
 }
 
-/// The node of a connective of expressions.
+/// The node of a connective of expressions: of the first half and of the second, so that a long chain is put together from
+/// parts of one length.
 #[cycle(expressions)]
 fn operands(
     ops: &mut Ops,
@@ -140,16 +141,14 @@ fn operands(
     ensures full { result ≡ Err Stop.Nodes → length ops.new.triples ≡ ops.new.budget }
     ensures fulls { ops.new.fulls ≡ fulls_after ops.old.fulls result }
 {
-    let mut node = none(operator);
-    let mut first = true;
-    for x in xs {
-        let next = expression(ops, slots, vars, x)?;
-        node = if first {
-            next
-        } else {
-            apply(ops, operator, node, next)?
-        };
-        first = false;
+    match xs {
+        [] => Ok(none(operator)),
+        [x] => expression(ops, slots, vars, x),
+        _ => {
+            let half = xs.len() / 2;
+            let left = operands(ops, operator, slots, vars, &xs[..half])?;
+            let right = operands(ops, operator, slots, vars, &xs[half..])?;
+            apply(ops, operator, left, right)
+        }
     }
-    Ok(node)
 }

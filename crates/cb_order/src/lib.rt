@@ -7,9 +7,7 @@ ghost use Rattle.cb_model.specs.Order.{IsGraph, IsOrder, HasCycle};
 ghost use Rattle.cb_order.specs.Sorting.{IsShaped, IsSorting, IsNext, state_of, is_placed};
 ghost use Rattle.cb_order.specs.declared.Wait.{Wait};
 
-mod graph;
-
-pub use graph::Graph;
+use cb_lists::Lists;
 use std::alloc::{AllocError, Global};
 use std::collections::BTreeSet;
 use std::mem;
@@ -49,7 +47,7 @@ impl Sorting {
     }
 
     /// Looks at the needs of an item from a place on: it waits for the first that isn't placed, or is ready.
-    fn look(&mut self, graph: &Graph, wait: Wait) -> Result<(), AllocError>
+    fn look(&mut self, graph: &Lists, wait: Wait) -> Result<(), AllocError>
         requires items { IsGraph graph.now }
         requires shape { IsShaped graph.now (state_of self.old) }
         requires item { wait.item < length graph.now }
@@ -60,7 +58,7 @@ impl Sorting {
         if self.placed[wait.item as usize] {
             return Ok(());
         }
-        let list = graph.needs(wait.item as usize);
+        let list = graph.list(wait.item as usize);
         let Some(at) = self.first_missing(list, wait.at) else {
             self.ready.insert(wait.item)?;
             return Ok(());
@@ -88,7 +86,7 @@ impl Sorting {
     }
 
     /// Places the item that comes next, and looks at those that waited for it.
-    fn place(&mut self, alloc: Global, graph: &Graph, item: u32) -> Result<(), AllocError>
+    fn place(&mut self, alloc: Global, graph: &Lists, item: u32) -> Result<(), AllocError>
         requires items { IsGraph graph.now }
         requires next { (seen : ℕ) × IsNext graph.now seen item (state_of self.old) }
         ensures placed { OnOk result (self.new.placed.items ≡ slice_set self.old.placed.items item true) }
@@ -104,7 +102,7 @@ impl Sorting {
     }
 
     /// Places what is ready, the least first, and what becomes ready by that.
-    fn settle(&mut self, alloc: Global, graph: &Graph) -> Result<(), AllocError>
+    fn settle(&mut self, alloc: Global, graph: &Lists) -> Result<(), AllocError>
         requires items { IsGraph graph.now }
         requires sorting { (seen : ℕ) × IsSorting graph.now seen [] (state_of self.old) }
         ensures sorting { OnOk result ((seen : ℕ) → IsSorting graph.now seen [] (state_of self.old) → IsSorting graph.now seen [] (state_of self.new)) }
@@ -119,7 +117,7 @@ impl Sorting {
 
 /// The items in an order in which each comes after those that it needs, and of those that could come next the least
 /// comes; `None` exactly where some items need one another in a round.
-pub fn order(alloc: Global, graph: &Graph) -> Result<Option<Vec<u32>>, AllocError>
+pub fn order(alloc: Global, graph: &Lists) -> Result<Option<Vec<u32>>, AllocError>
     requires items { IsGraph graph.now }
     requires small { length graph.now ≤ 2 ^ 32 }
     ensures order { IfOk result (λ o. MatchOption o (HasCycle graph.now) (λ v. IsOrder graph.now v.items)) }

@@ -3,3 +3,5 @@ pub mod Nodes
 pub mod Steps
 pub mod Whole
 pub mod Slots
+pub mod Renamed
+pub mod Names

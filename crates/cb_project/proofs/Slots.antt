@@ -1,7 +1,8 @@
 -- The values of slots, and what their parametric form says of the store.
-use Rattle.std.proofs.Common.{◌≡◌, ◌⊎◌, inl, inr, ◌↔◌, ℕ, zero, suc, ◌+◌, ◌-◌, ◌*◌, ◌<◌, ◌≤◌, ◌^◌, min, Bool, List, [], ◌∷◌, ◌++◌, map, length, take, drop, get_or, Result, Err, refl, sym, ap, ap₂, ◌∙◌, subst, append-nil, arith}
+use Rattle.std.proofs.Common.{◌≡◌, inl, inr, ℕ, zero, suc, ◌+◌, ◌<◌, ◌≤◌, List, [], ◌∷◌, ◌++◌, map, length, take, get_or, Option, Some, None, IfSome, refl, sym, ap, ap₂, ◌∙◌, subst, append-nil, arith}
 use Rattle.std.proofs.lemmas.List.{take_more, take_all}
-use Rattle.cb_model.specs.Bits.{Bits, Each, numbers_from}
+use Rattle.indexmap.specs.IndexMap.{IndexMap}
+use Rattle.cb_model.specs.Bits.{Each, numbers_from}
 use Rattle.cb_model.specs.Answers.{Gen}
 use Rattle.cb_model.specs.Outside.{Rose}
 use Rattle.cb_dd.specs.declared.Triple.{Triple}
@@ -9,16 +10,20 @@ use Rattle.cb_dd.specs.declared.Node.{Node}
 use Rattle.cb_dd.specs.Diagram.{Store, IsNode, function_of}
 use Rattle.cb_ops.specs.Ops.{Grows}
 use Rattle.cb_boole.specs.Elimination.{Function, DependsOnly}
-use Rattle.cb_boole.specs.View.{View, IsFit, IsGood, IsLive}
+use Rattle.cb_boole.specs.View.{IsFit, IsLive}
 use Rattle.cb_boole.proofs.Only.{weaker}
 use Rattle.cb_elim.specs.declared.Slot.{Slot}
-use Rattle.cb_elim.specs.Store.{Seen, IsStore, IsArgument, view_of, value_in, stands_in, AreThere}
+use Rattle.cb_elim.specs.Store.{Seen, IsStore, IsArgument, view_of, value_in, AreThere}
 use Rattle.cb_elim.specs.Moments.{KeepsMoments}
-use Rattle.cb_elim.proofs.Back.{Later, keeps, store-drawn, argument-drawn}
+use Rattle.cb_elim.proofs.Back.{keeps, store-drawn, argument-drawn}
 use Rattle.cb_elim.proofs.Views.{store-still, argument-still}
 use Rattle.cb_boole.specs.Parametric.{Reaches, Allows, values_at}
 use Rattle.cb_boole.proofs.Shown.{reaches_allows, gen_same}
-use Rattle.cb_project.specs.Leaves.{functions_of, AllNodes, AllBelow, AllDepend, AreParametric, ParametricRoom, ParametricCause}
+use Rattle.cb_project.specs.Leaves.{functions_of, AllNodes, AllBelow, AreParametric, ParametricRoom, ParametricCause}
+use Rattle.cb_boole.specs.Form.{AreSettled, values_of}
+use Rattle.cb_boole.specs.Stages.{AreOwn}
+use Rattle.cb_boole.proofs.Leaves.{settled_parametric, settled_own}
+use Rattle.cb_project.specs.Renaming.{Entries, names_in, numbers_of, AreNamed, IsRenaming}
 use Rattle.cb_project.specs.Answer.{AreSlots, slot_nodes, slot_values, IsAnswer}
 
 -- ---- the values
@@ -47,7 +52,7 @@ slots-next s leaves i d n values are lt before e =
 pub slots-done : (s : Seen) (leaves : List Slot) (i : ℕ) (values : List Node) → length leaves ≤ i → values ≡ slot_nodes s (take i leaves) → values ≡ slot_nodes s leaves
 slots-done s leaves i values le e = e ∙ ap (slot_nodes s) (take_all i leaves le)
 
-value-same : (ts : List Triple) (ns : List Node) (x : ℕ) (d : Node) → x < length ns → function_of ts (get_or ns x d).0 ≡ value_in ts ns x
+pub value-same : (ts : List Triple) (ns : List Node) (x : ℕ) (d : Node) → x < length ns → function_of ts (get_or ns x d).0 ≡ value_in ts ns x
 value-same ts [] x d lt = absurd (omega arith)
 value-same ts (n ∷ ns) zero d lt = refl
 value-same ts (n ∷ ns) (suc x) d lt = value-same ts ns x d (omega arith)
@@ -56,7 +61,7 @@ pub functions-slots : (s : Seen) (leaves : List Slot) → AreSlots s leaves → 
 functions-slots s [] are = refl
 functions-slots s (l ∷ leaves) are = ap₂ ◌∷◌ (value-same s.nodes.triples s.slots l.0 (record { 0 = 0 }) are.0) (functions-slots s leaves are.1)
 
-there-at : (ts : List Triple) (ns : List Node) (x : ℕ) (d : Node) → AreThere ts ns → x < length ns → IsNode ts (get_or ns x d).0
+pub there-at : (ts : List Triple) (ns : List Node) (x : ℕ) (d : Node) → AreThere ts ns → x < length ns → IsNode ts (get_or ns x d).0
 there-at ts [] x d w lt = absurd (omega arith)
 there-at ts (n ∷ ns) zero d w lt = w.0
 there-at ts (n ∷ ns) (suc x) d w lt = there-at ts ns x d w.1 (omega arith)
@@ -175,3 +180,53 @@ module _ (s s1 : Seen) (m : ℕ) (e : s1 ≡ record s { drawn = s.drawn + m }) (
 
 pub room-none : (values : List Node) (s : Store) → ParametricRoom values s s
 room-none values s = Rattle.cb_project.proofs.Whole.whole-room s s values 0 (omega arith) (λ ls d. omega arith)
+
+-- the levels that get parameters, for the operations that the store lends
+numbers-values : (s : Seen) (leaves : List Slot) → slot_values s leaves ≡ values_of (view_of s) (numbers_of leaves)
+unfolding view_of
+numbers-values s [] = refl
+numbers-values s (l ∷ leaves) = ap (λ fs. value_in s.nodes.triples s.slots l.0 ∷ fs) (numbers-values s leaves)
+
+length-values : (s : Seen) (leaves : List Slot) → length (slot_values s leaves) ≡ length leaves
+length-values s [] = refl
+length-values s (l ∷ leaves) = ap suc (length-values s leaves)
+
+length-numbers-of : (leaves : List Slot) → length (numbers_of leaves) ≡ length leaves
+length-numbers-of [] = refl
+length-numbers-of (l ∷ leaves) = ap suc (length-numbers-of leaves)
+
+pub is-renaming : (s : Seen) (leaves : List Slot) (first next : ℕ) (es : Entries) → IsStore s → AreSlots s leaves → AreNamed s first leaves (length leaves) next es →
+    IsRenaming s.constants first (functions_of s.nodes.triples (slot_nodes s leaves)) es
+unfolding view_of
+is-renaming s leaves first next es st are named =
+    let all : AreSettled (view_of s) (names_in es) first (numbers_of leaves) = subst (λ (ls : List Slot). AreSettled (view_of s) (names_in es) first (numbers_of ls)) (take_all (length leaves) leaves (omega arith)) named.settled in
+    let bounds : (l v : ℕ) → names_in es l ≡ Some v → (s.constants ≤ l) × (first ≤ v) = λ l v e. let b = named.bounds l v e in (b.0, b.1) in
+    let m : length (slot_values s leaves) ≡ length leaves = length-values s leaves in
+    subst (λ (fs : List Function). IsRenaming s.constants first fs es) (sym (functions-slots s leaves are)) (record {
+      constant = λ l v e. (named.bounds l v e).0;
+      parameter = λ l v e. let b = named.bounds l v e in (b.1, omega (arith, b.2, m));
+      few = omega (arith, named.few, m);
+      rise = named.rise;
+      form = λ p.
+          subst (λ n. Gen (Reaches s.constants (slot_values s leaves) p) [] (map p (numbers_from first n)) (values_at (slot_values s leaves) (Rattle.cb_boole.specs.Form.named (names_in es) p))) (length-numbers-of leaves ∙ sym m)
+          (subst (λ (fs : List Function). Gen (Reaches s.constants fs p) [] (map p (numbers_from first (length (numbers_of leaves)))) (values_at fs (Rattle.cb_boole.specs.Form.named (names_in es) p))) (sym (numbers-values s leaves))
+          (settled_parametric (view_of s) st.good st.form (names_in es) first bounds (numbers_of leaves) all p));
+      own = subst (λ (fs : List Function). AreOwn s.constants first 0 (map (λ f p. f (Rattle.cb_boole.specs.Form.named (names_in es) p)) fs)) (sym (numbers-values s leaves))
+          (settled_own (view_of s) st.good st.form (names_in es) first bounds 0 first (numbers_of leaves) (omega arith) all);
+    })
+
+-- as the code has it
+pub lent-renaming : (s : Seen) (leaves : List Slot) (first : ℕ) (c : ℕ) (es : Entries) (l : List Node) (t0 : Store) → IsStore s → AreSlots s leaves → l ≡ slot_nodes s leaves → t0 ≡ s.nodes → c ≡ s.constants →
+    (next : ℕ) × AreNamed s first leaves (length leaves) next es → IsRenaming c first (functions_of t0.triples l) es
+lent-renaming s leaves first c es l t0 st are el et ec named =
+    subst (λ n. IsRenaming n first (functions_of t0.triples l) es) (sym ec)
+    (subst (λ (t : Store). IsRenaming s.constants first (functions_of t.triples l) es) (sym et)
+    (subst (λ (ns : List Node). IsRenaming s.constants first (functions_of s.nodes.triples ns) es) (sym el)
+    (is-renaming s leaves first named.0 es st are named.1)))
+
+pub some-renaming : {S : Type 0} (o : Option (IndexMap ℕ ℕ S)) (s s1 : Seen) (m : ℕ) (e : s1 ≡ record s { drawn = s.drawn + m }) (leaves : List Slot) (first c : ℕ) (l values : List Node) (t0 : Store) →
+    IsStore s1 → AreSlots s leaves → l ≡ values → values ≡ slot_nodes s1 leaves → t0 ≡ s1.nodes → c ≡ s1.constants →
+    IfSome o (λ m. (next : ℕ) × AreNamed s1 first leaves (length leaves) next m.entries) → IfSome o (λ m. IsRenaming c first (functions_of t0.triples l) m.entries)
+some-renaming (Some names) s s1 m e leaves first c l values t0 st are el ev et ec h =
+    lent-renaming s1 leaves first c names.entries l t0 st (subst (λ (o : Seen). AreSlots o leaves) (sym e) are) (el ∙ ev) et ec h
+some-renaming None s s1 m e leaves first c l values t0 st are el ev et ec h = tt

@@ -19,7 +19,7 @@ use Rattle.cb_project.specs.Leaves.{functions_of, AllNodes, AllBelow, AllDepend,
 use Rattle.cb_project.proofs.Levels.{listed-left, listed-right}
 use Rattle.cb_project.proofs.Nodes.{functions-grown, functions-more}
 
-length-functions : (ts : List Triple) (ns : List Node) → length (functions_of ts ns) ≡ length ns
+pub length-functions : (ts : List Triple) (ns : List Node) → length (functions_of ts ns) ≡ length ns
 length-functions ts [] = refl
 length-functions ts (n ∷ ns) = ap suc (length-functions ts ns)
 
@@ -68,7 +68,7 @@ length-numbers : (first m : ℕ) → length (numbers_from first m) ≡ m
 length-numbers first zero = refl
 length-numbers first (suc m) = ap suc (length-numbers (suc first) m)
 
-listed-number : (first m i : ℕ) → i < m → IsListed (numbers_from first m) (first + i)
+pub listed-number : (first m i : ℕ) → i < m → IsListed (numbers_from first m) (first + i)
 listed-number first zero i lt = absurd (omega arith)
 listed-number first (suc m) zero lt = subst (IsListed (first ∷ numbers_from (suc first) m)) (let e : first ≡ first + 0 = omega arith in e) (listed-here first (numbers_from (suc first) m))
 listed-number first (suc m) (suc i) lt =
@@ -86,7 +86,7 @@ depend-all ts (n ∷ ns) ls more d = (depends-more ts n.0 ls more d.0, depend-al
 abbrev pub leaf_bound : List ℕ → ℕ → ℕ
 leaf_bound ls m = (12 * (length ls + m + 1) + m) * (2 ^ (length ls + m) * 2 ^ (length ls + m))
 
-length-all : (ls : List ℕ) (first m : ℕ) → length (all_levels ls first m) ≡ length ls + m
+pub length-all : (ls : List ℕ) (first m : ℕ) → length (all_levels ls first m) ≡ length ls + m
 length-all ls first m = length-append ls (numbers_from first m) ∙ ap (λ k. length ls + k) (length-numbers first m)
 
 pub within-next : (t u : Store) (c first n i m : ℕ) (left next : List Node) (node d : Node) (ls : List ℕ) → 0 < length left → i < m → n ≡ i →

@@ -1,10 +1,9 @@
 -- What the parametric form of the slots of a store says.
-use Rattle.std.specs.Prelude.{◌≡◌, ℕ, ◌+◌, ◌*◌, ◌<◌, ◌^◌, List, [], map, length, slice_index_or}
+use Rattle.std.specs.Prelude.{ℕ, ◌<◌, List, [], map, length, slice_index_or}
 use Rattle.cb_model.specs.Bits.{Bits, Each, numbers_from}
 use Rattle.cb_model.specs.Answers.{Gen}
 use Rattle.cb_dd.specs.declared.Node.{Node}
 use Rattle.cb_boole.specs.Elimination.{Function}
-use Rattle.cb_boole.specs.View.{View}
 use Rattle.cb_elim.specs.declared.Slot.{Slot}
 use Rattle.cb_elim.specs.Store.{Seen, view_of, value_in}
 use Rattle.cb_boole.specs.Parametric.{Allows, values_at}

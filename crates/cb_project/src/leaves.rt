@@ -122,8 +122,8 @@ fn leaf_of(
     }
 }
 
-// The nodes with the levels' images put in.
-fn put_in(
+/// The nodes with the levels' images put in.
+pub fn put_in(
     alloc: Global,
     ops: &mut Ops,
     values: &[Node],

@@ -12,11 +12,12 @@ ghost use Rattle.cb_project.specs.Answer.{AreSlots, IsAnswer, slot_nodes};
 
 use cb_dd::{Node, Stop};
 use cb_elim::{Slot, Store};
-use leaves::leaf_nodes;
+use renaming::{form_nodes, renaming};
 use sqlite_items::Items;
 use std::alloc::Global;
 
 mod leaves;
+mod renaming;
 
 /// The parametric form of an answer.
 #[derive(Debug, Drop)]
@@ -46,7 +47,8 @@ fn slot_values(alloc: Global, store: &Store, leaves: &[Slot]) -> Result<Vec<Node
 /// The parametric form of the slots' values: node j, counted from 1, is parameter `_j` where the store's equations
 /// allow that after the leaves before it, else the other bit. It draws a level for each leaf.
 ///
-/// Leaf by leaf: the solution (Boole 1854) of "the leaf is its node" is put into the leaves that follow. After a stop the
+/// Where the leaves are variables in the order of their levels, their values are this form as they stand, with the levels
+/// in place of the parameters. Else, leaf by leaf: the solution (Boole 1854) of "the leaf is its node" is put into the leaves that follow. After a stop the
 /// levels are drawn and nodes may stay; all goes with an undo of the caller.
 pub fn general(alloc: Global, store: &mut Store, leaves: &[Slot]) -> Result<Projected, Stop>
     requires store { IsStore store.old }
@@ -69,7 +71,10 @@ pub fn general(alloc: Global, store: &mut Store, leaves: &[Slot]) -> Result<Proj
     let first = store.draw(leaves.len() as u32);
     let values = slot_values(alloc, store, leaves)?;
     let constants = store.constants();
-    let found = leaf_nodes(alloc, store.ops(), &values, constants, first);
+    let Ok(names) = renaming(alloc, store, leaves, &values, first) else {
+        return Err(Stop::Memory);
+    };
+    let found = form_nodes(alloc, store.ops(), &values, names, constants, first);
     let _count = store.read().count();
     let nodes = found?;
     Ok(Projected {

@@ -1,5 +1,6 @@
 //! Runs one after another, with the file, the input and the failing calls that were set before them.
 
+use crate::deep::{chain_file, constants_file, product_query};
 use crate::escaped::plain;
 use cb_host::{Load, MemFiles, MemSink, MemSource, read_within};
 use cb_top::chipbool;
@@ -38,9 +39,13 @@ impl Session {
             "input" => self.input = plain(alloc, rest)?,
             "file_of_spaces" => self.file = spaces(alloc, rest)?,
             "input_of_spaces" => self.input = spaces(alloc, rest)?,
+            "file_of_chain" => self.file = chain(alloc, rest)?,
+            "file_of_constants" => self.file = constants_file(alloc, count(rest))?,
+            "input_of_product" => self.input = product_query(alloc, count(rest))?,
             "failing_read" => self.read = number(rest),
             "failing_write" => self.write = number(rest),
             "words" => self.run(alloc, rest)?,
+            "long_words" => self.run_long(alloc, rest)?,
             "each_write" => self.run_with_each_write(alloc, rest)?,
             _ => (),
         }
@@ -56,6 +61,20 @@ impl Session {
         let rest = rest_of(alloc, &mut input);
         self.out.extend_from_slice(out.written())?;
         let end = format!(in alloc; "status {status}, left {rest}\n")?;
+        self.out.extend_from_slice(end.as_bytes())?;
+        Ok(())
+    }
+
+    // Runs words, and writes the first 40 bytes of what they print, how many bytes that is, and their status.
+    fn run_long(&mut self, alloc: Global, line: &str) -> Result<(), Fail> {
+        let mut out = MemSink::new(alloc, 2_000_000, 100_000, Vec::new(alloc))?;
+        let bytes = Vec::from_slice(alloc, self.input.as_slice())?;
+        let mut input = MemSource::new(bytes, 1000, Vec::new(alloc));
+        let status = status_of(alloc, line, self.file.as_slice(), &mut input, &mut out)?;
+        let printed = out.written();
+        let length = printed.len();
+        self.out.extend_from_slice(&printed[..length.min(40)])?;
+        let end = format!(in alloc; "|{length} bytes, status {status}\n")?;
         self.out.extend_from_slice(end.as_bytes())?;
         Ok(())
     }
@@ -108,10 +127,20 @@ fn rest_of(alloc: Global, input: &mut MemSource) -> usize {
 }
 
 // So many spaces.
-fn spaces(alloc: Global, count: &str) -> Result<Vec<u8>, Fail> {
-    let count = count.parse::<u32>().unwrap_or(0);
-    let spaces = vec![in alloc; b' '; count as usize]?;
+fn spaces(alloc: Global, text: &str) -> Result<Vec<u8>, Fail> {
+    let spaces = vec![in alloc; b' '; count(text) as usize]?;
     Ok(spaces)
+}
+
+// The file of a chain of gates: the gate, how many inputs, and `right` or `wrong`.
+fn chain(alloc: Global, rest: &str) -> Result<Vec<u8>, Fail> {
+    let (gate, more) = rest.split_once(' ').unwrap_or((rest, ""));
+    let (inputs, kind) = more.split_once(' ').unwrap_or((more, ""));
+    chain_file(alloc, gate, count(inputs), kind == "right")
+}
+
+fn count(text: &str) -> u32 {
+    text.parse().unwrap_or(0)
 }
 
 fn number(text: &str) -> u64 {

@@ -1,7 +1,7 @@
 ghost use Rattle.std.specs.Prelude.{◌≡◌, length};
 ghost use Rattle.cb_elim.specs.Store.{IsStore, IsArgument};
 
-use crate::setup::{seen, with_variables};
+use crate::setup::{end, seen, with_variables};
 use cb_dd::{Node, Stop};
 use cb_elim::{Slot, Store};
 use std::alloc::Global;
@@ -50,24 +50,35 @@ fn are_all(store: &Store, node: Node) -> bool
     true
 }
 
-// Forty variables are made equal one after another, and then the last of them is made equal to the constant.
-fn chain(alloc: Global, budget: usize) -> Result<Ending, Stop> {
-    let mut store = with_variables(alloc, budget, 40)?;
+// The forty variables of a store are made equal one after another, and then the last of them is made equal to the constant.
+fn chain_in(alloc: Global, store: &mut Store) -> Result<Ending, Stop>
+    requires store { IsStore store.old }
+    requires constants { store.old.constants ≡ 1 }
+    requires slots { length store.old.slots ≡ 40 }
+{
     for x in 1..40 {
         let f = store.value(Slot(x - 1));
         let g = store.value(Slot(x));
-        let ending = watched(alloc, &mut store, f, g)?;
+        let ending = watched(alloc, store, f, g)?;
         if ending != Ending::Solved {
             return Ok(ending);
         }
     }
     let a = store.constant(0)?;
     let f = store.value(Slot(39));
-    let ending = watched(alloc, &mut store, f, a)?;
-    if ending == Ending::Solved && !are_all(&store, a) {
+    let ending = watched(alloc, store, f, a)?;
+    if ending == Ending::Solved && !are_all(store, a) {
         return Ok(Ending::Refused);
     }
     Ok(ending)
+}
+
+// The same in a store of its own.
+fn chain(alloc: Global, budget: usize) -> Result<Ending, Stop> {
+    let mut store = with_variables(alloc, budget, 40)?;
+    let ending = chain_in(alloc, &mut store);
+    end(store);
+    ending
 }
 
 // The forty variables are the constant.

@@ -2,10 +2,18 @@
 #![tactic(auto)]
 
 #[cfg(test)]
+mod constants;
+#[cfg(test)]
 mod full;
 #[cfg(test)]
 mod products;
 #[cfg(test)]
 mod setup;
+#[cfg(test)]
+mod solutions;
+#[cfg(test)]
+mod systems;
+#[cfg(test)]
+mod trails;
 #[cfg(test)]
 mod undone;

@@ -3,7 +3,7 @@ ghost use Rattle.cb_model.specs.Values.{in_scope};
 ghost use Rattle.cb_elim.specs.Store.{IsStore};
 ghost use Rattle.cb_elim.specs.Moments.{KeepsMoments};
 
-use crate::setup::with_variables;
+use crate::setup::{end, with_variables};
 use crate::undone::{are_rewritten, is_taken_back};
 use cb_dd::{Node, Stop};
 use cb_elim::{Slot, Store};
@@ -62,14 +62,6 @@ fn is_the_constant(store: &mut Store, product: &Expr) -> Result<bool, Stop>
     Ok(solved && half && listed && back == free && none)
 }
 
-#[test]
-fn a_product_is_the_constant(rt: HostRuntime) -> Result<(), Fail> {
-    let mut store = with_variables(rt.alloc(), 100, 1)?;
-    let times = product(rt.alloc())?;
-    assert!(rt; is_the_constant(&mut store, &times)?);
-    Ok(())
-}
-
 // Where the constant is 0 the product isn't 1. The store is as before: the first try has made the product's nodes.
 fn is_refused(store: &mut Store, product: &Expr) -> Result<bool, Stop>
     requires store { IsStore store.old }
@@ -88,14 +80,6 @@ fn is_refused(store: &mut Store, product: &Expr) -> Result<bool, Stop>
     Ok(!solved && !again && none && still == nodes && value == free)
 }
 
-#[test]
-fn no_solution_over_constants(rt: HostRuntime) -> Result<(), Fail> {
-    let mut store = with_variables(rt.alloc(), 100, 1)?;
-    let times = product(rt.alloc())?;
-    assert!(rt; is_refused(&mut store, &times)?);
-    Ok(())
-}
-
 // A slot with the product, in a store with one slot.
 fn hold_product(store: &mut Store, product: &Expr) -> Result<Slot, Stop>
     requires store { IsStore store.old }
@@ -111,28 +95,81 @@ fn hold_product(store: &mut Store, product: &Expr) -> Result<Slot, Stop>
     store.hold(node).map_err(|_| Stop::Memory)
 }
 
-// The product is the constant where the variable is.
-#[test]
-fn a_held_value_is_rewritten_and_restored(rt: HostRuntime) -> Result<(), Fail> {
-    let mut store = with_variables(rt.alloc(), 100, 1)?;
-    let times = product(rt.alloc())?;
-    let held = hold_product(&mut store, &times)?;
+// The product is the constant where the variable is: its slot is rewritten, and restored.
+fn is_held(store: &mut Store, product: &Expr) -> Result<bool, Stop>
+    requires store { IsStore store.old }
+    requires constants { store.old.constants ≡ 1 }
+    requires slots { length store.old.slots ≡ 1 }
+    requires product { in_scope store.old.constants 1 product.now ≡ true }
+{
+    let held = hold_product(store, product)?;
     let a = store.constant(0)?;
-    let back = is_taken_back(&mut store, 0, a)?;
-    assert!(rt; held == Slot(1) && back);
+    let back = is_taken_back(store, 0, a)?;
+    Ok(held == Slot(1) && back)
+}
+
+// What is tried with the product.
+#[derive(Clone, Copy)]
+enum Try {
+    IsTheConstant,
+    IsRefused,
+    IsHeld,
+}
+
+// Tries it in a store of its own, with one variable.
+fn try_with(alloc: Global, product: &Expr, what: Try) -> Result<bool, Stop>
+    requires { in_scope 1 1 product.now ≡ true }
+{
+    let mut store = with_variables(alloc, 100, 1)?;
+    let holds = match what {
+        Try::IsTheConstant => is_the_constant(&mut store, product),
+        Try::IsRefused => is_refused(&mut store, product),
+        Try::IsHeld => is_held(&mut store, product),
+    };
+    end(store);
+    holds
+}
+
+#[test]
+fn a_product_is_the_constant_is_refused_and_is_held(rt: HostRuntime) -> Result<(), Fail> {
+    let times = product(rt.alloc())?;
+    for what in [Try::IsTheConstant, Try::IsRefused, Try::IsHeld] {
+        assert!(rt; try_with(rt.alloc(), &times, what)?);
+    }
     Ok(())
 }
 
 // A variable is known once it is the constant; neither is one bit.
-#[test]
-fn knows_constants(rt: HostRuntime) -> Result<(), Fail> {
-    let mut store = with_variables(rt.alloc(), 100, 1)?;
+fn are_known(store: &mut Store) -> Result<bool, Stop>
+    requires store { IsStore store.old }
+    requires constants { store.old.constants ≡ 1 }
+    requires slots { length store.old.slots ≡ 1 }
+{
     let a = store.constant(0)?;
     let x = store.value(Slot(0));
-    let known = (store.known(x)?, store.known(a)?);
+    let Ok(variable) = store.known(x) else {
+        return Err(Stop::Memory);
+    };
+    let Ok(constant) = store.known(a) else {
+        return Err(Stop::Memory);
+    };
     let bits = (store.is_const(x), store.is_const(a));
-    assert!(rt; known == (false, true) && bits == (None, None));
-    assert!(rt; store.is_const(Node::ZERO) == Some(false));
-    assert!(rt; store.is_const(Node::ONE) == Some(true));
+    let zero = store.is_const(Node::ZERO) == Some(false);
+    let one = store.is_const(Node::ONE) == Some(true);
+    Ok(!variable && constant && bits == (None, None) && zero && one)
+}
+
+// The same in a store of its own.
+fn try_known(alloc: Global) -> Result<bool, Stop> {
+    let mut store = with_variables(alloc, 100, 1)?;
+    let known = are_known(&mut store);
+    end(store);
+    known
+}
+
+#[test]
+fn knows_constants(rt: HostRuntime) -> Result<(), Fail> {
+    let known = try_known(rt.alloc())?;
+    assert!(rt; known);
     Ok(())
 }

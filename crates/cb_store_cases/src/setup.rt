@@ -1,9 +1,29 @@
-ghost use Rattle.std.specs.Prelude.{◌≡◌, ◌≤◌, length, IfOk};
+ghost use Rattle.std.specs.Prelude.{◌≡◌, ◌≤◌, length, IfOk, OnOk};
 ghost use Rattle.cb_elim.specs.Store.{IsStore};
 
 use cb_dd::{Node, Stop};
 use cb_elim::{Slot, Store};
 use std::alloc::Global;
+
+// Lets a store go.
+pub(crate) fn end(_store: Store) {}
+
+// Draws so many variables, each in the slot of its number.
+fn draw(store: &mut Store, count: u32) -> Result<(), Stop>
+    requires store { IsStore store.old }
+    requires constants { store.old.constants ≡ 1 }
+    requires drawn { store.old.drawn ≡ 1 }
+    requires slots { length store.old.slots ≡ 0 }
+    requires few { count ≤ 1000 }
+    ensures store { IsStore store.new }
+    ensures constants { store.new.constants ≡ 1 }
+    ensures slots { OnOk result (length store.new.slots ≡ count) }
+{
+    for _ in 0..count {
+        let _x = store.variable()?;
+    }
+    Ok(())
+}
 
 // A store with one constant and so many variables, each in the slot of its number.
 pub(crate) fn with_variables(alloc: Global, budget: usize, count: u32) -> Result<Store, Stop>
@@ -15,10 +35,13 @@ pub(crate) fn with_variables(alloc: Global, budget: usize, count: u32) -> Result
     let Ok(mut store) = Store::new(alloc, 1, budget) else {
         return Err(Stop::Memory);
     };
-    for _ in 0..count {
-        let _x = store.variable()?;
+    match draw(&mut store, count) {
+        Ok(()) => Ok(store),
+        Err(stop) => {
+            end(store);
+            Err(stop)
+        }
     }
-    Ok(store)
 }
 
 // What can be seen of a store.

@@ -2,9 +2,10 @@ ghost use Rattle.std.specs.Prelude.{◌≡◌, ◌<◌, length};
 ghost use Rattle.cb_elim.specs.Store.{IsStore};
 ghost use Rattle.cb_elim.specs.Moments.{IsMoment, KeepsMoments};
 
-use crate::setup::with_variables;
+use crate::setup::{end, with_variables};
 use cb_dd::{Node, Stop};
 use cb_elim::{Slot, Store, StoreMark};
+use std::alloc::Global;
 use std::test::Fail;
 
 // Adds the equation of the values of two slots.
@@ -105,10 +106,20 @@ fn are_undone(store: &mut Store, a: Node) -> Result<bool, Stop>
     Ok(solved && first && second && still && last)
 }
 
+// The same in a store of its own.
+fn try_undo(alloc: Global) -> Result<bool, Stop> {
+    let mut store = with_variables(alloc, 100, 2)?;
+    let undone = match store.constant(0) {
+        Ok(a) => are_undone(&mut store, a),
+        Err(stop) => Err(stop),
+    };
+    end(store);
+    undone
+}
+
 #[test]
 fn equations_are_undone_one_by_one(rt: HostRuntime) -> Result<(), Fail> {
-    let mut store = with_variables(rt.alloc(), 100, 2)?;
-    let a = store.constant(0)?;
-    assert!(rt; are_undone(&mut store, a)?);
+    let undone = try_undo(rt.alloc())?;
+    assert!(rt; undone);
     Ok(())
 }

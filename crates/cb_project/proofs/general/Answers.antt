@@ -5,44 +5,54 @@ use Rattle.cb_dd.specs.Diagram.{Store}
 use Rattle.cb_elim.specs.Store.{Seen}
 use Rattle.cb_project.specs.Leaves.{functions_of, ParametricRoom}
 use Rattle.cb_project.specs.Answer.{IsAnswer, slot_nodes}
-use Rattle.cb_project.proofs.Slots.{lent-nodes, lent-below, lent-store, lent-argument, lent-moments, lent-room, lent-cause, lent-answer, room-none}
+use Rattle.cb_project.proofs.Slots.{lent-nodes, lent-below, lent-store, lent-argument, lent-moments, lent-cause, lent-answer, some-renaming, room-none}
 use Rattle.cb_project.proofs.general.Goals as goal
 
-pub leaf_nodes-found-requires-clause-nodes : goal.leaf_nodes-found-requires-clause-nodes
-leaf_nodes-found-requires-clause-nodes c = lent-nodes c.args.store.now c.draw-first.new.self (length c.args.leaves.now) c.draw-first.ensures.drawn c.args.leaves.now c.deref.result.now c.in_ok-values.values.items c.deref.ensures.value c.in_ok-values.ensures.values c.ops.result.now c.ops.ensures.value c.requires.store c.requires.slots
+pub form_nodes-found-requires-clause-nodes : goal.form_nodes-found-requires-clause-nodes
+form_nodes-found-requires-clause-nodes c = lent-nodes c.args.store.now c.draw-first.new.self (length c.args.leaves.now) c.draw-first.ensures.drawn c.args.leaves.now c.deref-2.result.now c.in_ok-values.values.items c.deref-2.ensures.value c.in_ok-values.ensures.values c.ops.result.now c.ops.ensures.value c.requires.store c.requires.slots
 
-pub leaf_nodes-found-requires-clause-below : goal.leaf_nodes-found-requires-clause-below
-leaf_nodes-found-requires-clause-below c = lent-below c.args.store.now c.draw-first.new.self (length c.args.leaves.now) c.draw-first.ensures.drawn c.args.leaves.now c.deref.result.now c.in_ok-values.values.items c.deref.ensures.value c.in_ok-values.ensures.values c.ops.result.now c.ops.ensures.value c.requires.store c.requires.slots c.draw-first.result c.draw-first.ensures.first
+pub form_nodes-found-requires-clause-below : goal.form_nodes-found-requires-clause-below
+form_nodes-found-requires-clause-below c = lent-below c.args.store.now c.draw-first.new.self (length c.args.leaves.now) c.draw-first.ensures.drawn c.args.leaves.now c.deref-2.result.now c.in_ok-values.values.items c.deref-2.ensures.value c.in_ok-values.ensures.values c.ops.result.now c.ops.ensures.value c.requires.store c.requires.slots c.draw-first.result c.draw-first.ensures.first
 
 pub returns-in_err-nodes-clause-arguments : goal.returns-in_err-nodes-clause-arguments
-returns-in_err-nodes-clause-arguments c = lent-argument c.args.store.now c.draw-first.new.self (length c.args.leaves.now) c.draw-first.ensures.drawn c.args.leaves.now c.deref.result.now c.in_ok-values.values.items c.deref.ensures.value c.in_ok-values.ensures.values c.ops.result.now c.ops.ensures.value c.requires.store c.requires.slots c.leaf_nodes-found.new.ops c.leaf_nodes-found.ensures.grows
+returns-in_err-nodes-clause-arguments c = lent-argument c.args.store.now c.draw-first.new.self (length c.args.leaves.now) c.draw-first.ensures.drawn c.args.leaves.now c.deref-2.result.now c.in_ok-values.values.items c.deref-2.ensures.value c.in_ok-values.ensures.values c.ops.result.now c.ops.ensures.value c.requires.store c.requires.slots c.form_nodes-found.new.ops c.form_nodes-found.ensures.grows
 
 pub returns-in_err-nodes-clause-moments : goal.returns-in_err-nodes-clause-moments
-returns-in_err-nodes-clause-moments c = lent-moments c.args.store.now c.draw-first.new.self (length c.args.leaves.now) c.draw-first.ensures.drawn c.args.leaves.now c.deref.result.now c.in_ok-values.values.items c.deref.ensures.value c.in_ok-values.ensures.values c.ops.result.now c.ops.ensures.value c.requires.store c.requires.slots c.leaf_nodes-found.new.ops c.leaf_nodes-found.ensures.grows
+returns-in_err-nodes-clause-moments c = lent-moments c.args.store.now c.draw-first.new.self (length c.args.leaves.now) c.draw-first.ensures.drawn c.args.leaves.now c.deref-2.result.now c.in_ok-values.values.items c.deref-2.ensures.value c.in_ok-values.ensures.values c.ops.result.now c.ops.ensures.value c.requires.store c.requires.slots c.form_nodes-found.new.ops c.form_nodes-found.ensures.grows
 
 pub returns-in_err-nodes-clause-store : goal.returns-in_err-nodes-clause-store
-returns-in_err-nodes-clause-store c = lent-store c.args.store.now c.draw-first.new.self (length c.args.leaves.now) c.draw-first.ensures.drawn c.args.leaves.now c.deref.result.now c.in_ok-values.values.items c.deref.ensures.value c.in_ok-values.ensures.values c.ops.result.now c.ops.ensures.value c.requires.store c.requires.slots c.leaf_nodes-found.new.ops c.leaf_nodes-found.ensures.grows
+returns-in_err-nodes-clause-store c = lent-store c.args.store.now c.draw-first.new.self (length c.args.leaves.now) c.draw-first.ensures.drawn c.args.leaves.now c.deref-2.result.now c.in_ok-values.values.items c.deref-2.ensures.value c.in_ok-values.ensures.values c.ops.result.now c.ops.ensures.value c.requires.store c.requires.slots c.form_nodes-found.new.ops c.form_nodes-found.ensures.grows
 
 pub returns-clause-arguments : goal.returns-clause-arguments
-returns-clause-arguments c = lent-argument c.args.store.now c.draw-first.new.self (length c.args.leaves.now) c.draw-first.ensures.drawn c.args.leaves.now c.deref.result.now c.in_ok-values.values.items c.deref.ensures.value c.in_ok-values.ensures.values c.ops.result.now c.ops.ensures.value c.requires.store c.requires.slots c.leaf_nodes-found.new.ops c.leaf_nodes-found.ensures.grows
+returns-clause-arguments c = lent-argument c.args.store.now c.draw-first.new.self (length c.args.leaves.now) c.draw-first.ensures.drawn c.args.leaves.now c.deref-2.result.now c.in_ok-values.values.items c.deref-2.ensures.value c.in_ok-values.ensures.values c.ops.result.now c.ops.ensures.value c.requires.store c.requires.slots c.form_nodes-found.new.ops c.form_nodes-found.ensures.grows
 
 pub returns-clause-moments : goal.returns-clause-moments
-returns-clause-moments c = lent-moments c.args.store.now c.draw-first.new.self (length c.args.leaves.now) c.draw-first.ensures.drawn c.args.leaves.now c.deref.result.now c.in_ok-values.values.items c.deref.ensures.value c.in_ok-values.ensures.values c.ops.result.now c.ops.ensures.value c.requires.store c.requires.slots c.leaf_nodes-found.new.ops c.leaf_nodes-found.ensures.grows
+returns-clause-moments c = lent-moments c.args.store.now c.draw-first.new.self (length c.args.leaves.now) c.draw-first.ensures.drawn c.args.leaves.now c.deref-2.result.now c.in_ok-values.values.items c.deref-2.ensures.value c.in_ok-values.ensures.values c.ops.result.now c.ops.ensures.value c.requires.store c.requires.slots c.form_nodes-found.new.ops c.form_nodes-found.ensures.grows
 
 pub returns-clause-store : goal.returns-clause-store
-returns-clause-store c = lent-store c.args.store.now c.draw-first.new.self (length c.args.leaves.now) c.draw-first.ensures.drawn c.args.leaves.now c.deref.result.now c.in_ok-values.values.items c.deref.ensures.value c.in_ok-values.ensures.values c.ops.result.now c.ops.ensures.value c.requires.store c.requires.slots c.leaf_nodes-found.new.ops c.leaf_nodes-found.ensures.grows
+returns-clause-store c = lent-store c.args.store.now c.draw-first.new.self (length c.args.leaves.now) c.draw-first.ensures.drawn c.args.leaves.now c.deref-2.result.now c.in_ok-values.values.items c.deref-2.ensures.value c.in_ok-values.ensures.values c.ops.result.now c.ops.ensures.value c.requires.store c.requires.slots c.form_nodes-found.new.ops c.form_nodes-found.ensures.grows
 
 pub returns-clause-answer : goal.returns-clause-answer
 returns-clause-answer c =
-    subst (λ (ns : List Node). IsAnswer c.args.store.now c.args.leaves.now c.draw-first.result (functions_of c.leaf_nodes-found.new.ops.triples ns)) (sym c.from_vec.ensures)
-    (lent-answer c.args.store.now c.draw-first.new.self (length c.args.leaves.now) c.draw-first.ensures.drawn c.args.leaves.now c.deref.result.now c.in_ok-values.values.items c.deref.ensures.value c.in_ok-values.ensures.values c.ops.result.now c.ops.ensures.value c.requires.store c.requires.slots c.leaf_nodes-found.new.ops c.leaf_nodes-found.ensures.grows c.constants-constants.result c.draw-first.result (functions_of c.leaf_nodes-found.new.ops.triples c.in_ok-nodes.nodes.items) c.constants-constants.ensures c.in_ok-nodes.ensures.parametric)
+    subst (λ (ns : List Node). IsAnswer c.args.store.now c.args.leaves.now c.draw-first.result (functions_of c.form_nodes-found.new.ops.triples ns)) (sym c.from_vec.ensures)
+    (lent-answer c.args.store.now c.draw-first.new.self (length c.args.leaves.now) c.draw-first.ensures.drawn c.args.leaves.now c.deref-2.result.now c.in_ok-values.values.items c.deref-2.ensures.value c.in_ok-values.ensures.values c.ops.result.now c.ops.ensures.value c.requires.store c.requires.slots c.form_nodes-found.new.ops c.form_nodes-found.ensures.grows c.constants-constants.result c.draw-first.result (functions_of c.form_nodes-found.new.ops.triples c.in_ok-nodes.nodes.items) c.constants-constants.ensures c.in_ok-nodes.ensures.parametric)
 
 pub returns-in_err-nodes-clause-cause : goal.returns-in_err-nodes-clause-cause
 returns-in_err-nodes-clause-cause c =
     let p = err_from_is_err_and c.from_residual-in_err-nodes.result c.from_residual-in_err-nodes.ensures.1 in
-    rw (p.1, p.2) (λ h. lent-cause c.args.store.now c.draw-first.new.self (length c.args.leaves.now) c.draw-first.ensures.drawn c.args.leaves.now c.deref.result.now c.in_ok-values.values.items c.deref.ensures.value c.in_ok-values.ensures.values c.ops.result.now c.ops.ensures.value c.requires.store c.requires.slots c.leaf_nodes-found.new.ops c.leaf_nodes-found.ensures.grows c.leaf_nodes-found.ensures.room (c.in_err-nodes.ensures.rose (cc)) (c.in_err-nodes.ensures.full (cc)))
+    rw (p.1, p.2) (λ h. lent-cause c.args.store.now c.draw-first.new.self (length c.args.leaves.now) c.draw-first.ensures.drawn c.args.leaves.now c.deref-2.result.now c.in_ok-values.values.items c.deref-2.ensures.value c.in_ok-values.ensures.values c.ops.result.now c.ops.ensures.value c.requires.store c.requires.slots c.form_nodes-found.new.ops c.form_nodes-found.ensures.grows c.form_nodes-found.ensures.room (c.in_err-nodes.ensures.rose (cc)) (c.in_err-nodes.ensures.full (cc)))
 
 pub returns-in_err-values-clause-room : goal.returns-in_err-values-clause-room
 returns-in_err-values-clause-room c =
     subst (λ (t : Store). ParametricRoom (slot_nodes c.args.store.now c.args.leaves.now) c.args.store.now.nodes t) (sym (ap (λ (o : Seen). o.nodes) c.draw-first.ensures.drawn))
     (room-none (slot_nodes c.args.store.now c.args.leaves.now) c.args.store.now.nodes)
+
+pub returns-in_default-clause-room : goal.returns-in_default-clause-room
+returns-in_default-clause-room c =
+    subst (λ (t : Store). ParametricRoom (slot_nodes c.args.store.now c.args.leaves.now) c.args.store.now.nodes t) (sym (ap (λ (o : Seen). o.nodes) c.draw-first.ensures.drawn))
+    (room-none (slot_nodes c.args.store.now c.args.leaves.now) c.args.store.now.nodes)
+
+pub form_nodes-found-requires-clause-names : goal.form_nodes-found-requires-clause-names
+form_nodes-found-requires-clause-names c =
+    some-renaming c.in-Ok.names c.args.store.now c.draw-first.new.self (length c.args.leaves.now) c.draw-first.ensures.drawn c.args.leaves.now c.draw-first.result c.constants-constants.result c.deref-2.result.now c.in_ok-values.values.items c.ops.result.now
+    c.draw-first.ensures.store c.requires.slots c.deref-2.ensures.value c.in_ok-values.ensures.values c.ops.ensures.value c.constants-constants.ensures c.in-Ok.ensures

@@ -1,5 +1,5 @@
 use Rattle.std.proofs.Common.{◌∙◌}
-use Rattle.cb_project.proofs.Slots.{slots-next, slots-done}
+use Rattle.cb_project.proofs.Slots.{slots-next}
 use Rattle.cb_project.proofs.slot_values.Goals as goal
 
 pub loop-leaf-preserved : goal.loop-leaf-preserved

@@ -1,12 +1,11 @@
-use Rattle.std.proofs.Common.{◌≡◌, ℕ, ◌<◌, length, subst, sym, ◌∙◌, arith}
+use Rattle.std.proofs.Common.{ℕ, ◌-◌, ◌/◌, ◌<◌, length, map, sum, take, drop, subst, sym, ap, arith}
 use Rattle.std.specs.Prelude.{OnErr}
-use Rattle.cb_ops.specs.Ops.{Grows}
-use Rattle.cb_ops.proofs.Ite.{Grows-then}
-use Rattle.cb_elim.proofs.Sizes.{chain-stop, chain-first, chain-full, chain-next, chain-end, not-first, not-room, and-room, xor-room, or-room, size-and, size-xor, size-or, is-first, is-later, not-first-next}
+use Rattle.std.proofs.lemmas.Result.{IfOk-weaker}
+use Rattle.std.proofs.lemmas.List.{length-drop, length-take-le}
+use Rattle.cb_elim.proofs.Sizes.{both-room, chain-one, halves-room, low-room, not-first, not-room, and-room, xor-room, or-room, size-and, size-xor, size-or}
 use Rattle.cb_elim.specs.Expression.{variable_bits}
 use Rattle.cb_elim.proofs.Views.{there-still}
-use Rattle.cb_elim.proofs.Expressions.{zero-is, one-is, operands-first, operands-next, weight-not, weight-and, weight-xor, weight-or, weight-at}
-use Rattle.cb_elim.proofs.expression.+expressions.Goals.{operands-then-first, operands-else-first+in_ok-node}
+use Rattle.cb_elim.proofs.Expressions.{weight, half-less, half-some, high-is, parts-are, single, zero-is, one-is, operands-both, weight-high, weight-low, weight-not, weight-and, weight-xor, weight-or}
 use Rattle.cb_elim.proofs.expression.+expressions.Goals as goal
 
 pub expression-expression-requires : goal.expression-expression-requires
@@ -58,45 +57,45 @@ pub expression-returns-in-Or-clause-some : goal.expression-returns-in-Or-clause-
 expression-returns-in-Or-clause-some t c =
     subst (λ (n : ℕ). OnErr c.operands-in-Or.result (0 < n)) (sym (size-or c.args.e.now c.in-Or.xs c.as_slice-in-Or.result.now c.in-Or.is c.as_slice-in-Or.ensures)) c.operands-in-Or.ensures.some
 
-pub operands-expression-requires : goal.operands-expression-requires
-operands-expression-requires t c =
-    (omega (arith, weight-at c.args.xs.now c.loop-x.x-index c.x-item.result c.loop-x-test.true c.x-item.is), there-still c.args.ops.now c.loop-x.ops c.loop-x.invariant.grows c.args.slots.now c.requires)
+pub operands-operands-requires : goal.operands-operands-requires
+operands-operands-requires t c = (omega (arith, weight-low c.args.xs.now (length c.args.xs.now / 2) (half-less (length c.args.xs.now) c.in_default.len_at_least)), c.requires)
 
-pub operands-loop-x-preserved : goal.operands-loop-x-preserved
-operands-loop-x-preserved t c =
-    let now = c.loop-x.invariant in
-    let grown : Grows c.args.ops.now c.expression.new.ops = Grows-then c.args.ops.now c.loop-x.ops c.expression.new.ops now.grows c.expression.ensures.grows in
-    elim c.if-first.branch [
-      | operands-then-first w ↦
-          let none : c.loop-x.x-index ≡ 0 = is-first c.loop-x.x-index c.loop-x.first now.first w.if-first.true in
-          rw (w.ops-is, w.node-is, w.first-is) (record {
-            grows = grown;
-            is_node = c.in_ok-next.ensures.is_node;
-            function = operands-first c.args.ops.now c.loop-x.ops c.expression.new.ops now.grows c.args.slots.now c.requires c.args.vars.now c.args.operator c.args.xs.now c.loop-x.x-index c.x-item.result c.in_ok-next.next.0 c.loop-x-test.true c.x-item.is none c.in_ok-next.ensures.function;
-            first = not-first-next c.loop-x.x-index;
-            room = chain-first c.args.slots.now c.args.vars.now c.args.xs.now c.loop-x.x-index c.x-item.result c.loop-x-test.true c.x-item.is c.args.ops.now c.loop-x.ops c.expression.new.ops c.loop-x.invariant.grows c.expression.ensures.grows c.requires c.loop-x.invariant.room c.expression.ensures.room none;
-            fulls = c.in_ok-next.ensures.fulls ∙ now.fulls;
-          })
-      | operands-else-first+in_ok-node w ↦
-          let some : 0 < c.loop-x.x-index = is-later c.loop-x.x-index c.loop-x.first now.first w.if-first.false in
-          rw (w.ops-is, w.node-is, w.first-is) (record {
-            grows = Grows-then c.args.ops.now c.expression.new.ops w.apply.new.ops grown w.apply.ensures.grows;
-            is_node = w.in_ok-node.ensures.is_node;
-            function = operands-next c.args.ops.now c.loop-x.ops c.expression.new.ops w.apply.new.ops now.grows c.expression.ensures.grows c.args.slots.now c.requires c.args.vars.now c.args.operator c.args.xs.now c.loop-x.x-index c.x-item.result
-                c.loop-x.node.0 c.in_ok-next.next.0 w.in_ok-node.node.0 c.loop-x-test.true c.x-item.is now.is_node now.function c.in_ok-next.ensures.function w.in_ok-node.ensures.function;
-            first = not-first-next c.loop-x.x-index;
-            room = chain-next c.args.slots.now c.args.vars.now c.args.xs.now c.loop-x.x-index c.x-item.result c.loop-x-test.true c.x-item.is c.args.ops.now c.loop-x.ops c.expression.new.ops c.loop-x.invariant.grows c.expression.ensures.grows c.requires c.loop-x.invariant.room c.expression.ensures.room w.apply.new.ops c.args.operator c.loop-x.node.0 c.in_ok-next.next.0 now.is_node now.function c.in_ok-next.ensures.function w.apply.ensures.room some;
-            fulls = w.in_ok-node.ensures.fulls ∙ c.in_ok-next.ensures.fulls ∙ now.fulls;
-          })
-    ]
+pub operands-operands-requires-in_default : goal.operands-operands-requires-in_default
+operands-operands-requires-in_default t c = (
+  (let q = half-less (length c.args.xs.now) c.in_default.len_at_least in
+      let w = weight-high c.args.xs.now (length c.args.xs.now / 2) (half-some (length c.args.xs.now) c.in_default.len_at_least) (omega arith) in
+      omega (arith, w, ap length (high-is c.args.xs.now (length c.args.xs.now / 2)), ap (λ ys. sum (map weight ys)) (high-is c.args.xs.now (length c.args.xs.now / 2)))),
+  there-still c.args.ops.now c.operands.new.ops c.operands.ensures.grows c.args.slots.now c.requires,
+)
 
-pub operands-returns-in_err-next-clause-room : goal.operands-returns-in_err-next-clause-room
-operands-returns-in_err-next-clause-room t c = chain-stop c.args.slots.now c.args.vars.now c.args.xs.now c.loop-x.x-index c.x-item.result c.loop-x-test.true c.x-item.is c.args.ops.now c.loop-x.ops c.expression.new.ops c.loop-x.invariant.grows c.expression.ensures.grows c.requires c.loop-x.invariant.room c.expression.ensures.room
+pub operands-returns-in-len1-clause-room : goal.operands-returns-in-len1-clause-room
+operands-returns-in-len1-clause-room t c =
+    chain-one c.args.slots.now (length c.args.vars.now) c.args.xs.now c.x-item.result c.args.ops.now c.expression.new.ops (single c.args.xs.now c.x-item.result c.in-len1.len_at_least c.in-len1.len_below c.x-item.is) c.expression.ensures.room
 
-pub operands-returns-in_err-node-clause-room : goal.operands-returns-in_err-node-clause-room
-operands-returns-in_err-node-clause-room t c =
-    chain-full c.args.slots.now c.args.vars.now c.args.xs.now c.loop-x.x-index c.x-item.result c.loop-x-test.true c.x-item.is c.args.ops.now c.loop-x.ops c.expression.new.ops c.loop-x.invariant.grows c.expression.ensures.grows c.requires c.loop-x.invariant.room c.expression.ensures.room c.apply.new.ops c.args.operator c.loop-x.node.0 c.in_ok-next.next.0 c.loop-x.invariant.is_node c.loop-x.invariant.function c.in_ok-next.ensures.function c.apply.ensures.room
-    (is-later c.loop-x.x-index c.loop-x.first c.loop-x.invariant.first c.if-first.false)
+pub operands-returns-in_err-left-in_default-clause-room : goal.operands-returns-in_err-left-in_default-clause-room
+operands-returns-in_err-left-in_default-clause-room t c =
+    low-room c.args.slots.now c.args.vars.now c.args.xs.now (take (length c.args.xs.now / 2) c.args.xs.now) (take (length c.args.xs.now - length c.args.xs.now / 2) (drop (length c.args.xs.now / 2) c.args.xs.now)) (parts-are c.args.xs.now (length c.args.xs.now / 2))
+    (let p = half-some (length c.args.xs.now) c.in_default.len_at_least in let q = half-less (length c.args.xs.now) c.in_default.len_at_least in omega (arith, length-take-le (length c.args.xs.now / 2) c.args.xs.now (omega arith)))
+    (let q = half-less (length c.args.xs.now) c.in_default.len_at_least in omega (arith, ap length (high-is c.args.xs.now (length c.args.xs.now / 2)), length-drop (length c.args.xs.now / 2) c.args.xs.now))
+    c.args.ops.now c.operands.new.ops c.operands.ensures.room
 
-pub operands-returns-clause-room : goal.operands-returns-clause-room
-operands-returns-clause-room t c = chain-end c.args.slots.now (length c.args.vars.now) c.args.xs.now c.loop-x.x-index c.args.ops.now c.loop-x.ops (omega (arith, c.loop-x.auto.x-index-end, c.loop-x-test.false)) c.loop-x.invariant.room
+pub operands-returns-in_err-right-in_default-clause-room : goal.operands-returns-in_err-right-in_default-clause-room
+operands-returns-in_err-right-in_default-clause-room t c =
+    both-room c.args.slots.now c.args.vars.now c.args.xs.now (take (length c.args.xs.now / 2) c.args.xs.now) (take (length c.args.xs.now - length c.args.xs.now / 2) (drop (length c.args.xs.now / 2) c.args.xs.now)) (parts-are c.args.xs.now (length c.args.xs.now / 2))
+    (let p = half-some (length c.args.xs.now) c.in_default.len_at_least in let q = half-less (length c.args.xs.now) c.in_default.len_at_least in omega (arith, length-take-le (length c.args.xs.now / 2) c.args.xs.now (omega arith)))
+    (let q = half-less (length c.args.xs.now) c.in_default.len_at_least in omega (arith, ap length (high-is c.args.xs.now (length c.args.xs.now / 2)), length-drop (length c.args.xs.now / 2) c.args.xs.now))
+    c.args.ops.now c.operands.new.ops c.operands.ensures.room c.operands-in_default.new.ops c.operands.ensures.grows c.requires c.operands-in_default.ensures.room
+
+pub operands-returns-in_ok-right-in_default-clause-room : goal.operands-returns-in_ok-right-in_default-clause-room
+operands-returns-in_ok-right-in_default-clause-room t c =
+    halves-room c.args.slots.now c.args.vars.now c.args.xs.now (take (length c.args.xs.now / 2) c.args.xs.now) (take (length c.args.xs.now - length c.args.xs.now / 2) (drop (length c.args.xs.now / 2) c.args.xs.now)) (parts-are c.args.xs.now (length c.args.xs.now / 2))
+    (let p = half-some (length c.args.xs.now) c.in_default.len_at_least in let q = half-less (length c.args.xs.now) c.in_default.len_at_least in omega (arith, length-take-le (length c.args.xs.now / 2) c.args.xs.now (omega arith)))
+    (let q = half-less (length c.args.xs.now) c.in_default.len_at_least in omega (arith, ap length (high-is c.args.xs.now (length c.args.xs.now / 2)), length-drop (length c.args.xs.now / 2) c.args.xs.now))
+    c.args.ops.now c.operands.new.ops c.operands.ensures.room c.operands-in_default.new.ops c.operands.ensures.grows c.requires c.operands-in_default.ensures.room c.apply.new.ops c.operands-in_default.ensures.grows c.args.operator
+    c.in_ok-left-in_default.left.0 c.in_ok-right-in_default.right.0 c.in_ok-left-in_default.ensures.is_node c.in_ok-left-in_default.ensures.function c.in_ok-right-in_default.ensures.function c.apply.ensures.room
+
+pub operands-returns-in_ok-right-in_default-clause-function : goal.operands-returns-in_ok-right-in_default-clause-function
+operands-returns-in_ok-right-in_default-clause-function t c = IfOk-weaker c.apply.result _ _ (λ n applied.
+    operands-both c.args.ops.now c.operands.new.ops c.operands-in_default.new.ops c.apply.new.ops c.operands.ensures.grows c.operands-in_default.ensures.grows c.args.slots.now c.requires c.args.vars.now c.args.operator c.args.xs.now
+    (take (length c.args.xs.now / 2) c.args.xs.now) (take (length c.args.xs.now - length c.args.xs.now / 2) (drop (length c.args.xs.now / 2) c.args.xs.now)) c.in_ok-left-in_default.left.0 c.in_ok-right-in_default.right.0 n.0
+    (parts-are c.args.xs.now (length c.args.xs.now / 2)) c.in_ok-left-in_default.ensures.is_node c.in_ok-left-in_default.ensures.function c.in_ok-right-in_default.ensures.function applied) c.apply.ensures.function

@@ -1,0 +1,13 @@
+use Rattle.std.proofs.Common.{arith}
+use Rattle.cb_dd.proofs.Children.{bottom_child, top_child}
+use Rattle.cb_project.proofs.Renamed.{bit-is}
+use Rattle.cb_project.proofs.renaming.bit.Goals as goal
+
+pub node-requires-clause-lo_child : goal.node-requires-clause-lo_child
+node-requires-clause-lo_child c = bottom_child _ _ (omega (arith, c.ranges.level.fits))
+
+pub node-requires-clause-hi_child : goal.node-requires-clause-hi_child
+node-requires-clause-hi_child c = top_child _ _ (omega (arith, c.ranges.level.fits))
+
+pub returns-clause-function : goal.returns-clause-function
+returns-clause-function c = bit-is c.args.ops.now c.node.new.self c.in_ok-n.n.0 c.args.level c.in_ok-n.ensures.function
