@@ -1,12 +1,12 @@
 -- A variable that is bound.
 use Rattle.std.proofs.Common.{◌≡◌, ◌≢◌, inl, inr, ℕ, zero, suc, ◌<◌, List, [], ◌∷◌, ◌++◌, length, take, Some, None, refl, sym, ap, subst, ◌∙◌, arith, append-nil}
-use Rattle.std.specs.Prelude.{slice_get, slice_set}
+use Rattle.std.specs.Prelude.{slice_get, slice_set, get_or}
 use Rattle.std.proofs.lemmas.Bool.{cases_eq, cases_lt}
 use Rattle.std.specs.Global.{Vec}
 use Rattle.std.specs.Vec.{with_items}
 use Rattle.std.proofs.lemmas.List.{length-set, set-set, with_items_is}
 use Rattle.std.proofs.Math.Seq.{take-length}
-use Rattle.std.proofs.lemmas.Option.{slice_get_within}
+use Rattle.std.proofs.lemmas.Option.{slice_get_within, slice_get-get_or}
 use Rattle.cb_model.specs.declared.Sort.{Sort}
 use Rattle.cb_model.specs.declared.Sort.TheVariants as sort
 use Rattle.cb_model.specs.Bits.{Each}
@@ -18,7 +18,7 @@ use Rattle.cb_heap.specs.declared.Stored.TheVariants as cell
 use Rattle.cb_heap.specs.Reading.{IsUnbound}
 use Rattle.cb_heap.specs.Finite.{IsFinite, ends, Names, AllFinite, IsSorted, CellSorted}
 use Rattle.cb_heap.specs.Below.{IsBelow, here, down}
-use Rattle.cb_heap.specs.Links.{LinkFalls, link_of, LeadsTo, arrives, goes, IsLast}
+use Rattle.cb_heap.specs.Links.{IsLinked, LinkFalls, link_of, LeadsTo, arrives, goes, IsLast}
 use Rattle.cb_heap.specs.Heap.{Terms, IsHeap, IsBound, IsUnboundAt, with_rewritten}
 use Rattle.cb_heap.specs.Moments.{KeepsMoments}
 use Rattle.cb_heap.proofs.Steps.{some-inj, no_some, get-set-same, get-set-other, bound-step}
@@ -111,35 +111,65 @@ unbound-sort t ss r (cell.Node n k) u h = absurd u
 unbound-sort t ss r (cell.Bound to) u h = absurd u
 unbound-sort t ss r (cell.Same to) u h = absurd u
 
+-- ---- one cell is rewritten
+
+module _ (t : Terms) (h : IsHeap t) (v : ℕ) (d c : Stored) (is : slice_get t.cells v ≡ Some d) where
+  trail-one : (n : ℕ) (xs : List Change) → v < n → Each (λ x. x.cell < n) xs → Each (λ x. x.cell < n) (xs ++ record { cell = v; old = d } ∷ [])
+  trail-one n [] a h = (a, tt)
+  trail-one n (x ∷ xs) a h = (h.0, trail-one n xs a h.1)
+
+  pub heap-set : IsLinked (slice_set t.cells v c) → IsHeap (with_rewritten t v d c)
+  heap-set linked = record {
+    number = h.number ∙ sym (length-set t.cells v c);
+    linked = linked;
+    trail = subst (λ n. Each (λ x. x.cell < n) (t.trail ++ record { cell = v; old = d } ∷ [])) (sym (length-set t.cells v c)) (trail-one (length t.cells) t.trail (slice_get_within t.cells v d is) h.trail);
+  }
+
+  pub keeps-set : KeepsMoments t (with_rewritten t v d c)
+  keeps-set = keeps t (with_rewritten t v d c) (record {
+    number = let n = length-set t.cells v c in omega arith;
+    more = [];
+    sorts = sym (append-nil t.sorts);
+    changes = record { cell = v; old = d } ∷ [];
+    trail = refl;
+    cells =
+        ap (λ cs. slice_set cs v d) (ap (λ n. take n (slice_set t.cells v c)) (sym (length-set t.cells v c)) ∙ take-length (slice_set t.cells v c))
+        ∙ set-set t.cells v c d
+        ∙ set-own t.cells v d is;
+  }) h
+
+-- ---- what rewriting gives
+
+abbrev pub Writes : Terms → Terms → ℕ → Stored → Type 0
+Writes old new v c = ((d : Stored) → slice_get old.cells v ≡ Some d → new ≡ with_rewritten old v d c) × IsHeap new × KeepsMoments old new
+
+module _ (now t : Terms) (eq : t ≡ now) (v : ℕ) (c : Stored) (cs : List Stored) (xs : List Change) where
+  abbrev left_is : Terms
+  left_is = record { cells = cs; sorts = t.sorts; trail = xs }
+
+  pub writes : IsHeap now → v < length now.cells → IsLinked (slice_set now.cells v c) → cs ≡ slice_set t.cells v c → ((d : Stored) → slice_get t.cells v ≡ Some d → xs ≡ t.trail ++ record { cell = v; old = d } ∷ []) →
+      Writes now left_is v c
+  writes h less linked ce xe = subst (λ (o : Terms). IsHeap o → v < length o.cells → IsLinked (slice_set o.cells v c) → Writes o left_is v c) eq (λ k l n.
+      let d = get_or t.cells v c in
+      let is : slice_get t.cells v ≡ Some d = slice_get-get_or t.cells v c l in
+      let same : with_rewritten t v d c ≡ left_is = λ i. record { cells = sym ce i; sorts = t.sorts; trail = sym (xe d is) i } in
+      subst (λ (o : Terms). Writes t o v c) same (
+        λ e at. ap (λ x. with_rewritten t v x c) (some-inj d e (sym is ∙ at)),
+        heap-set t k v d c is n,
+        keeps-set t k v d c is,
+      )) h less linked
+
 -- ---- an unbound cell is bound to the end of links
 
 module _ (t : Terms) (h : IsHeap t) (v : ℕ) (d : Stored) (is : slice_get t.cells v ≡ Some d) (u : IsUnbound d) (to : Ref) (less : to.0 < length t.cells) where
   abbrev rewritten : List Stored
   rewritten = slice_set t.cells v (cell.Bound to)
 
-  trail-one : (n : ℕ) (xs : List Change) → v < n → Each (λ x. x.cell < n) xs → Each (λ x. x.cell < n) (xs ++ record { cell = v; old = d } ∷ [])
-  trail-one n [] a h = (a, tt)
-  trail-one n (x ∷ xs) a h = (h.0, trail-one n xs a h.1)
-
   pub heap-bound : LinkFalls rewritten v (cell.Bound to) → IsHeap (with_rewritten t v d (cell.Bound to))
-  heap-bound falls = record {
-    number = h.number ∙ sym (length-set t.cells v (cell.Bound to));
-    linked = linked-set t.cells v (cell.Bound to) d is h.linked (unbound-no-solid d (cell.Bound to) u) falls (λ j n. subst (λ k. k < length t.cells) (sym n) less);
-    trail = subst (λ n. Each (λ x. x.cell < n) (t.trail ++ record { cell = v; old = d } ∷ [])) (sym (length-set t.cells v (cell.Bound to))) (trail-one (length t.cells) t.trail (slice_get_within t.cells v d is) h.trail);
-  }
+  heap-bound falls = heap-set t h v d (cell.Bound to) is (linked-set t.cells v (cell.Bound to) d is h.linked (unbound-no-solid d (cell.Bound to) u) falls (λ j n. subst (λ k. k < length t.cells) (sym n) less))
 
   pub keeps-bound : KeepsMoments t (with_rewritten t v d (cell.Bound to))
-  keeps-bound = keeps t (with_rewritten t v d (cell.Bound to)) (record {
-    number = let n = length-set t.cells v (cell.Bound to) in omega arith;
-    more = [];
-    sorts = sym (append-nil t.sorts);
-    changes = record { cell = v; old = d } ∷ [];
-    trail = refl;
-    cells =
-        ap (λ cs. slice_set cs v d) (ap (λ n. take n rewritten) (sym (length-set t.cells v (cell.Bound to))) ∙ take-length rewritten)
-        ∙ set-set t.cells v (cell.Bound to) d
-        ∙ set-own t.cells v d is;
-  }) h
+  keeps-bound = keeps-set t h v d (cell.Bound to) is
 
   fits-bound : (q : Sorts) → slice_get t.sorts v ≡ slice_get t.sorts to.0 → IsSorted q t.sorts t.cells → IsSorted q t.sorts rewritten
   fits-bound q e o =

@@ -2,14 +2,14 @@
 //! stood there is kept to be taken back (the trail of Warren's abstract machine, 1983).
 #![tactic(auto)]
 
-ghost use Rattle.std.specs.Prelude.{◌≡◌, ℕ, ◌+◌, ◌<◌, ◌≤◌, ◌↔◌, [], ◌∷◌, ◌++◌, length, map, take, drop, true, false, slice_get, slice_set, Some, IfOk, OnOk, OnErr, IsTrue, Contains};
+ghost use Rattle.std.specs.Prelude.{◌≡◌, ℕ, ◌+◌, ◌<◌, ◌≤◌, ◌^◌, ◌↔◌, [], ◌∷◌, ◌++◌, length, map, take, drop, true, false, slice_get, slice_set, Some, IfOk, OnOk, OnErr, IsTrue, Contains};
 ghost use Rattle.std.specs.Option.{option_map};
 ghost use Rattle.cb_model.specs.Bits.{Each};
 ghost use Rattle.cb_heap.specs.Reading.{IsUnbound};
 ghost use Rattle.cb_heap.specs.Finite.{AllFinite, Names};
 ghost use Rattle.cb_heap.specs.Below.{IsBelow};
 ghost use Rattle.cb_heap.specs.Links.{IsLast, IsLinked, link_of};
-ghost use Rattle.cb_heap.specs.Heap.{Terms, IsAddable, IsBound, IsHeap, IsUnboundAt, no_terms, shown_as, sort_of, stored_as, with_cell, with_node};
+ghost use Rattle.cb_heap.specs.Heap.{Terms, IsAddable, IsBound, IsHeap, IsUnboundAt, no_terms, shown_as, sort_of, stored_as, with_cell, with_node, with_rewritten};
 ghost use Rattle.cb_heap.specs.Moments.{Moment, IsMoment, KeepsMoments, moment_of, reverted, rewritten_since, stored_since, undone};
 ghost use Rattle.cb_heap.specs.Laws.{BelowSame, DifferSomewhere, HasReading, OneBelow, TwoForms};
 
@@ -175,7 +175,8 @@ impl Heap {
 
     /// The number of cells.
     pub fn len(&self) -> usize
-        ensures { result ≡ length self.now.cells }
+        ensures number { result ≡ length self.now.cells }
+        ensures small { result < 2 ^ 63 }
     {
         self.cells.len()
     }
@@ -227,6 +228,29 @@ impl Heap {
         } else {
             rewrite(&mut self.cells, &mut self.trail, var.0, Stored::Bound(end))?;
         }
+        Ok(())
+    }
+
+    /// What is stored in the cell.
+    pub fn stored(&self, r: Ref) -> Stored
+        requires { r.0 < length self.now.cells }
+        ensures { slice_get self.now.cells r.0 ≡ Some result }
+    {
+        self.cells[r.0]
+    }
+
+    /// Writes a cell, and keeps what stood there. For unification, which makes many cells one before it looks for
+    /// cycles: nothing is said of values. After a refusal the heap is as before.
+    pub fn rewrite(&mut self, r: Ref, new: Stored) -> Result<(), AllocError>
+        requires heap { IsHeap self.old }
+        requires there { r.0 < length self.old.cells }
+        requires linked { IsLinked (slice_set self.old.cells r.0 new) }
+        ensures rewritten { OnOk result ((c : Stored) → slice_get self.old.cells r.0 ≡ Some c → self.new ≡ with_rewritten self.old r.0 c new) }
+        ensures refused { OnErr result (self.new ≡ self.old) }
+        ensures moments { KeepsMoments self.old self.new }
+        ensures heap { IsHeap self.new }
+    {
+        rewrite(&mut self.cells, &mut self.trail, r.0, new)?;
         Ok(())
     }
 
