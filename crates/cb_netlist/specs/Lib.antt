@@ -1,0 +1,4 @@
+pub mod Wiring
+pub mod Parts
+pub mod Places
+pub mod Netlists
