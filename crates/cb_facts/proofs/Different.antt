@@ -18,7 +18,7 @@ fresh ns (x ∷ xs) = not (list_any (bytes_eq x) ns) && fresh (ns ++ x ∷ []) x
 outside : List Text → List Text → Bool
 outside ns xs = list_all (λ y. not (list_any (bytes_eq y) ns)) xs
 
-eq-turned : (x y : Text) → bytes_eq x y ≡ bytes_eq y x
+pub eq-turned : (x y : Text) → bytes_eq x y ≡ bytes_eq y x
 eq-turned x y = step (bytes_eq x y) (bytes_eq y x) refl refl
   where
     step : (a b : Bool) → bytes_eq x y ≡ a → bytes_eq y x ≡ b → a ≡ b

@@ -1,10 +1,10 @@
 //! The variables of a rule or query by number, in the order of their first appearance, each `_` a variable of its own.
 #![tactic(auto)]
 
-ghost use Rattle.std.specs.Prelude.{◌≡◌, ◌<◌, ℕ, [], Some, true, length, position, bytes_eq, slice_get, OnOk, OnErr, IfOk, MatchOption};
+ghost use Rattle.std.specs.Prelude.{◌≡◌, ◌<◌, ℕ, [], Some, true, length, position, bytes_eq, slice_get, slice_index_or, OnOk, OnErr, IfOk, MatchOption};
 ghost use Rattle.cb_model.specs.Grammar.{Variable as AVariable};
 ghost use Rattle.cb_model.specs.Sorts.{own_name, renamed};
-ghost use Rattle.cb_model.specs.Text.{is_variable};
+ghost use Rattle.cb_model.specs.Text.{is_variable, shown_name};
 ghost use Rattle.cb_model.specs.Loading.{add_name};
 ghost use Rattle.cb_variables.specs.Names.{variable_name, is_proper};
 
@@ -94,6 +94,18 @@ impl<'s> Variables<'s> {
         match self.variables.get_index(number) {
             Some(Variable::Named(name)) => Some(*name),
             Some(Variable::Own(_)) => None,
+            None => unreachable!(),
+        }
+    }
+
+    /// The name of the variable under a number as it stands in the text.
+    pub fn shown(&self, number: usize) -> &'s [u8]
+        requires { number < length self.now }
+        ensures { result.now ≡ shown_name (slice_index_or self.now number []) }
+    {
+        match self.variables.get_index(number) {
+            Some(Variable::Named(name)) => *name,
+            Some(Variable::Own(_)) => b"_",
             None => unreachable!(),
         }
     }

@@ -1,0 +1,11 @@
+//! The circuits of a file: its module and specification facts, checked by the rules of circuits.
+#![tactic(auto)]
+
+mod checks;
+mod circuits;
+mod marks;
+mod owners;
+mod reading;
+
+pub use circuits::Circuits;
+pub use reading::{CircError, read_circuits};
