@@ -24,3 +24,4 @@ pub mod Counts
 pub mod Fits
 pub mod ScopedGoals
 pub mod Operands
+pub mod OneFacts

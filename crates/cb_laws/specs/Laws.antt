@@ -11,6 +11,7 @@ use Rattle.cb_model.specs.Directives.{Sign, has_sign, Declared, sorts_of, direct
 use Rattle.cb_model.specs.Sorted.{clause_fits, goal_fits, operands_fit}
 use Rattle.cb_model.specs.Loading.{module_names, body_of, query_body, BodyRefusal, IsClause, signs_of, goals_signs}
 use Rattle.cb_model.specs.Output.{Loaded, IsLoaded, IsQuery}
+use Rattle.cb_model.specs.Facts.{Circuits, FactRefusal, FactsRead}
 use Rattle.cb_model.specs.Bits.{Bits, Each, bits_of, some_bits, every_bits, xor}
 use Rattle.cb_model.specs.Text.{Text}
 use Rattle.cb_model.specs.Values.{Admitted, World, expr_value, in_scope, tree_in_scope}
@@ -188,6 +189,10 @@ ClausesAreOne = (ts : List Token) (xs ys : List FormClause) → ReadsAll ReadsCl
 -- and as one list of queries at most
 abbrev pub QueriesAreOne : Type 0
 QueriesAreOne = (ts : List Token) (xs ys : List FormQuery) → ReadsAll ReadsQuery ts xs → ReadsAll ReadsQuery ts ys → xs ≡ ys
+
+-- clauses have one first refusal of their facts or none, and what is read before it is one
+abbrev pub FactsAreOne : Type 0
+FactsAreOne = (c d e : Circuits) (cs : List FormClause) (r s : Option (FactRefusal × ℕ)) → FactsRead c cs r d → FactsRead c cs s e → (r ≡ s) × (d ≡ e)
 
 -- what the grammar reads is in its form, and no longer than the text
 abbrev pub ReadingIsWritten : Type 0

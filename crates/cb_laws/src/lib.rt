@@ -1,7 +1,7 @@
 //! Laws of the definitions: each is the contract of a function that does nothing.
 #![tactic(auto)]
 
-ghost use Rattle.cb_laws.specs.Laws.{SolvableByTables, SolvableDecided, SolvableByTablesBelow, SolutionGivesValues, ReadyStays, StepDetermined, RunDetermined, SameBeginning, SamePrints, PrintedAreSolvable, PrintedDenote, FormDenotes, DirectivesCount, ClausesFit, TreesFit, TreesInScope, ChainsHaveOperands, ShapeIsOne, LineIsOne, RoomIsOne, RoomOfNone, TokenLines, ReadingIsWritten, ClausesAreOne, QueriesAreOne};
+ghost use Rattle.cb_laws.specs.Laws.{SolvableByTables, SolvableDecided, SolvableByTablesBelow, SolutionGivesValues, ReadyStays, StepDetermined, RunDetermined, SameBeginning, SamePrints, PrintedAreSolvable, PrintedDenote, FormDenotes, DirectivesCount, ClausesFit, TreesFit, TreesInScope, ChainsHaveOperands, ShapeIsOne, LineIsOne, RoomIsOne, RoomOfNone, TokenLines, ReadingIsWritten, ClausesAreOne, QueriesAreOne, FactsAreOne};
 
 /// Boolean equations are solvable exactly where they have a solution in the algebra (Boole).
 pub fn solvable_by_tables()
@@ -107,4 +107,10 @@ pub fn reading_is_written()
 /// The line of each token is that of its first byte.
 pub fn token_lines()
     ensures { TokenLines }
+{}
+
+/// The facts of circuits of a file are read in one way: there is one first refusal or none, and what was read before it
+/// is one.
+pub fn facts_are_one()
+    ensures { FactsAreOne }
 {}
