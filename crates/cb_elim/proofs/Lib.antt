@@ -13,6 +13,7 @@ pub mod Rooms
 pub mod Expressions
 pub mod Laws
 pub mod Sizes
+pub mod Together
 mod Added
 mod Covering
 mod Kept

@@ -6,3 +6,4 @@ pub mod Expression
 pub mod Laws
 pub mod Lending
 pub mod Watch
+pub mod Pairs
