@@ -67,7 +67,7 @@ agree-both k (l ∷ ls) a b x h = (
 )
 
 -- a restricted node depends on no more levels
-restricted-depends : (s t : Store) (f r level : ℕ) (bit : Bool) (ls : List ℕ) → StandsFor t.triples r (λ a. function_of s.triples f (put level bit a)) → DependsOn s.triples f ls → DependsOn t.triples r ls
+pub restricted-depends : (s t : Store) (f r level : ℕ) (bit : Bool) (ls : List ℕ) → StandsFor t.triples r (λ a. function_of s.triples f (put level bit a)) → DependsOn s.triples f ls → DependsOn t.triples r ls
 restricted-depends s t f r level bit ls is d = record { agrees = λ a b h. is.at a ∙ d.agrees (put level bit a) (put level bit b) (agree-both level ls a b bit h) ∙ sym (is.at b) }
 
 either-of : (x y z w : Bool) → x ≡ z → y ≡ w → x || y ≡ z || w

@@ -1,9 +1,9 @@
 // Levels replaced by nodes.
 ghost use Rattle.std.specs.Prelude.{◌≡◌, ◌≢◌, ◌+◌, ◌-◌, ◌*◌, ◌<◌, ◌≤◌, ◌^◌, [], ◌∷◌, List, ℕ, length, map, Ok, Err, IfOk, OnOk, IsTrue, None, Some, if◌then◌else◌};
 ghost use Rattle.std.specs.List.Sorted.{IsStrictlyIncreasing};
-ghost use Rattle.cb_model.specs.Bits.{Bits};
+ghost use Rattle.cb_model.specs.Bits.{Bits, put};
 ghost use Rattle.cb_dd.specs.Diagram.{IsDiagram, IsNode, function_of, fulls_after};
-ghost use Rattle.cb_ops.specs.Ops.{Grows, StandsFor};
+ghost use Rattle.cb_ops.specs.Ops.{Grows, StandsFor, Room, HasCause};
 ghost use Rattle.cb_ops.specs.Substitute.{AreNodes, AllSubstituted, SubstituteCause, SubstituteRoom, IsJoined, JoinRoom, image_of, substituted};
 ghost use Rattle.cb_ops.specs.Walk.{AllMade, IsMadeSide, IsVisit, WentDown, WentUp, PutRoom, images_of, side_of, fulls_after_step};
 
@@ -13,6 +13,32 @@ use cb_dd::{Node, Stop};
 use indexmap::IndexMap;
 
 impl Ops {
+    /// The node with the level replaced by g: it has for each assignment the bit that f has where the bit at the level is
+    /// that of g.
+    ///
+    /// Composition of Bryant (1986): the choice by g between the two cofactors. Levels whose nodes depend on none of the
+    /// greater levels of a list are replaced all at once by one such call after another, the least level first.
+    pub fn compose(&mut self, f: Node, level: u32, g: Node) -> Result<Node, Stop>
+        requires f { IsNode self.old.triples f.0 }
+        requires g { IsNode self.old.triples g.0 }
+        ensures is_node { IfOk result (λ n. IsNode self.new.triples n.0) }
+        ensures function { IfOk result (λ n. StandsFor self.new.triples n.0 (λ a.
+            function_of self.old.triples f.0
+            (put level (function_of self.old.triples g.0 a) a))) }
+        ensures grows { Grows self.old self.new }
+        ensures room { Room (f.0 ∷ g.0 ∷ []) 3 self.old self.new }
+        ensures full { result ≡ Err Stop.Nodes → length self.new.triples ≡ self.new.budget }
+        ensures nodes { result ≡ Err Stop.Nodes → HasCause (f.0 ∷ g.0 ∷ []) 3 self.old self.new }
+        ensures unbounded { self.old.budget ≡ 2 ^ 64 - 1 → result ≢ Err Stop.Nodes }
+        ensures fulls { self.new.fulls ≡ fulls_after self.old.fulls result }
+        ensures diagram { IsDiagram self.new.triples }
+    {
+        let low = self.restrict(f, level, false)?;
+        let high = self.restrict(f, level, true)?;
+        let n = self.ite(g, high, low)?;
+        Ok(n)
+    }
+
     /// The node with each level of the list replaced by its node, all at once. It is the node itself where all its
     /// levels are greater than the last one of the list.
     pub fn substitute(&mut self, f: Node, list: &[(u32, Node)]) -> Result<Node, Stop>
@@ -149,7 +175,7 @@ impl Ops {
                 Ok(Step::Down(high))
             }
             Rest::Low(low) => {
-                let n = self.compose(top.level, low, r, list)?;
+                let n = self.choose(top.level, low, r, list)?;
                 remember(done, top.node, n);
                 Ok(Step::Up(n))
             }
@@ -157,7 +183,7 @@ impl Ops {
     }
 
     // The node that is `high` where what replaces the level is 1, and `low` where it is 0.
-    fn compose(
+    fn choose(
         &mut self,
         level: u32,
         low: Node,
