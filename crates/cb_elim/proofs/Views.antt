@@ -1,19 +1,21 @@
 -- A store stays one when nodes are added.
-use Rattle.std.proofs.Common.{◌≡◌, ℕ, zero, suc, ◌<◌, Bool, List, [], ◌∷◌, length, get_or, Some, None, refl, sym, ap, subst, arith}
+use Rattle.std.proofs.Common.{◌≡◌, ℕ, zero, suc, ◌<◌, Bool, List, [], ◌∷◌, length, get_or, Some, None, if◌then◌else◌, refl, sym, ap, subst, ◌∙◌, arith}
 use Rattle.std.proofs.Math.Path.{fun_ext}
 use Rattle.cb_model.specs.Bits.{Bits, Each}
 use Rattle.cb_dd.specs.declared.Node.{Node}
 use Rattle.cb_dd.specs.declared.Triple.{Triple}
 use Rattle.cb_dd.specs.Diagram.{Store, IsNode, function_of}
-use Rattle.cb_ops.specs.Ops.{Grows, StandsFor}
+use Rattle.cb_ops.specs.Ops.{Grows, IsIte, StandsFor}
 use Rattle.cb_ops.proofs.Ite.{grown-function, grown-node}
 use Rattle.cb_boole.specs.Elimination.{Function}
 use Rattle.cb_boole.specs.Form.{IsForm}
-use Rattle.cb_boole.specs.View.{View, IsGood, IsFit}
+use Rattle.cb_boole.specs.View.{View, IsGood, IsFit, InRange, back, point}
 use Rattle.cb_boole.proofs.Form.{form_empty}
-use Rattle.cb_boole.proofs.Grow.{fit_constant, fit_two}
+use Rattle.cb_boole.proofs.Grow.{fit_constant}
+use Rattle.cb_boole.proofs.Unify.{at_point}
 use Rattle.cb_elim.specs.declared.Change.{Change}
-use Rattle.cb_elim.specs.Store.{Seen, IsStore, IsArgument, OnlyNodes, AreThere, IsVariableOf, stands_in, value_in, view_of, with_fulls, empty}
+use Rattle.cb_elim.specs.Store.{Seen, IsStore, IsArgument, OnlyNodes, AreThere, HasSameRange, IsVariableOf, slot_bits, stands_in, value_in, view_of, with_fulls, empty}
+use Rattle.cb_elim.specs.Laws.{IsDecidedBy}
 
 -- the view with these values
 abbrev pub with_values : Seen → (ℕ → Function) → View
@@ -128,9 +130,37 @@ value-argument s st x n h e = record {
   fit = subst (λ (f : Function). IsFit (view_of s) f) (sym (value-at s.nodes.triples s.slots x n h e)) (st.good.fit x);
 }
 
--- what a connective makes of nodes that meet the condition meets it
-pub connective-argument : (s : Seen) → IsStore s → (f g n : ℕ) (op : Bool → Bool → Bool) → IsArgument s f → IsArgument s g → IsNode s.nodes.triples n → ((p : Bits) → function_of s.nodes.triples n p ≡ op (function_of s.nodes.triples f p) (function_of s.nodes.triples g p)) → IsArgument s n
-connective-argument s st f g n op a b w is = record {
-  node = w;
-  fit = subst (λ (h : Function). IsFit (view_of s) h) (sym (fun_ext (λ p. is p))) (fit_two (view_of s) op (function_of s.nodes.triples f) (function_of s.nodes.triples g) a.fit b.fit);
-}
+-- ---- loans
+
+pub range-still : (s : Seen) (t : Store) → IsStore s → Grows s.nodes t → HasSameRange (view_of s) (view_of (record s { nodes = t }))
+range-still s t st g = subst (λ (S : View). HasSameRange (view_of s) S) (sym (view-still s t g st.nodes)) (λ a b. ((λ r. r), (λ r. r)))
+
+pub bits-still : (s : Seen) (t : Store) → IsStore s → Grows s.nodes t → (a w : Bits) (x : ℕ) → slot_bits (view_of (record s { nodes = t })) a w x ≡ slot_bits (view_of s) a w x
+bits-still s t st g a w x = ap {B = Bool} (λ (S : View). slot_bits S a w x) (view-still s t g st.nodes)
+
+-- what is a function of nodes that meet the condition meets it
+module _ (s : Seen) (st : IsStore s) where
+  same-bits : (fs : List ℕ) → Each (IsArgument s) fs → (p q : Bits) → ((f : ℕ) → IsArgument s f → function_of s.nodes.triples f p ≡ function_of s.nodes.triples f q) → Each (λ f. function_of s.nodes.triples f p ≡ function_of s.nodes.triples f q) fs
+  same-bits [] h p q e = tt
+  same-bits (f ∷ fs) h p q e = (e f h.0, same-bits fs h.1 p q e)
+
+  pub decided-argument : (t : Store) → Grows s.nodes t → (fs : List ℕ) (n : ℕ) → Each (IsArgument s) fs → IsDecidedBy s.nodes t fs n → IsArgument (record s { nodes = t }) n
+  decided-argument t g fs n h d = record {
+    node = d.node;
+    fit = subst (λ (S : View). IsFit S (function_of t.triples n)) (sym (view-still s t g st.nodes)) (record {
+      only = λ p q e. d.decided p q (same-bits fs h p q (λ f a. a.fit.only p q e));
+      kept = λ p. d.decided (back (view_of s) p) p (same-bits fs h (back (view_of s) p) p (λ f a. a.fit.kept p));
+    });
+  }
+
+  pub choice-argument : (t : Store) → Grows s.nodes t → (f g h n : ℕ) → Each (IsArgument s) (f ∷ g ∷ h ∷ []) → IsNode t.triples n → IsIte s.nodes.triples t.triples f g h n → IsArgument (record s { nodes = t }) n
+  choice-argument t grows f g h n each w is = decided-argument t grows (f ∷ g ∷ h ∷ []) n each (record {
+    node = w;
+    decided = λ p q e. is.at p ∙ same (function_of s.nodes.triples f p) _ _ _ _ _ e.0 e.1.0 e.1.1.0 ∙ sym (is.at q);
+  })
+    where
+      same : (x y z x' y' z' : Bool) → x ≡ x' → y ≡ y' → z ≡ z' → (if x then y else z) ≡ (if x' then y' else z')
+      same x y z x' y' z' a b c = λ i. if a i then b i else c i
+
+  pub value-of-pair : (n : ℕ) → IsArgument s n → (a b : Bits) (r : InRange (view_of s) a b) → function_of s.nodes.triples n (point (view_of s).stands a b) ≡ function_of s.nodes.triples n r.at
+  value-of-pair n h a b r = at_point (view_of s) st.good (function_of s.nodes.triples n) h.fit a b r

@@ -5,7 +5,7 @@ use Rattle.cb_model.specs.Bits.{Bits, Each}
 use Rattle.cb_model.specs.Values.{World, expr_value}
 use Rattle.cb_model.specs.Equations.{Solvable, Refuted}
 use Rattle.cb_laws.specs.Laws.{Equal, pair_item}
-use Rattle.cb_dd.specs.Diagram.{function_of}
+use Rattle.cb_dd.specs.Diagram.{Store, IsNode, function_of}
 use Rattle.cb_boole.specs.View.{InRange, point}
 use Rattle.cb_elim.specs.Store.{Seen, view_of}
 use Rattle.cb_elim.specs.Unified.{HasNone, IsSolved}
@@ -41,3 +41,8 @@ levels_below (suc n) = n ∷ levels_below n
 -- the levels of the constants, and the free levels
 abbrev pub live_levels : Seen → List ℕ
 live_levels s = levels_below s.constants ++ map (λ f. f.level) s.free
+
+-- Node n of the new store is a function of these nodes of the old one: where they have the same bits, it has the same bit.
+pub record IsDecidedBy (old new : Store) (fs : List ℕ) (n : ℕ) : Type 0 where
+  pub node : IsNode new.triples n
+  pub decided : (p q : Bits) → Each (λ f. function_of old.triples f p ≡ function_of old.triples f q) fs → function_of new.triples n p ≡ function_of new.triples n q

@@ -2,21 +2,21 @@
 //! general solution in its reproductive form (Löwenheim 1908; Büttner and Simonis 1987).
 #![tactic(auto)]
 
-ghost use Rattle.std.specs.Prelude.{◌≡◌, ◌≢◌, ◌⊎◌, ℕ, Bool, true, false, ◌+◌, ◌-◌, ◌*◌, ◌<◌, ◌≤◌, ◌^◌, ◌↔◌, [], ◌∷◌, ◌++◌, length, map, take, drop, slice_index_or, slice_get, Some, None, Ok, Err, IfOk, OnOk, OnErr, IfSome, IfNone, IsErr, IsTrue, EachIndex, Contains, slice_index};
+ghost use Rattle.std.specs.Prelude.{◌≡◌, ◌≢◌, ◌⊎◌, ℕ, Bool, List, true, false, ◌+◌, ◌-◌, ◌*◌, ◌<◌, ◌≤◌, ◌^◌, ◌↔◌, [], ◌∷◌, ◌++◌, length, map, take, drop, slice_index_or, slice_get, Some, None, Ok, Err, IfOk, OnOk, OnErr, IfSome, IfNone, IsErr, IsTrue, EachIndex, Contains, slice_index};
 ghost use Rattle.std.specs.List.Sorted.{IsStrictlyIncreasing};
 ghost use Rattle.cb_model.specs.Bits.{Bits, Each, xor};
 ghost use Rattle.cb_dd.specs.Diagram.{Store as Nodes, IsNode, function_of, fulls_after};
-ghost use Rattle.cb_ops.specs.Ops.{Grows, StandsFor};
+ghost use Rattle.cb_ops.specs.Ops.{Grows, IsIte, StandsFor};
 ghost use Rattle.cb_ops.specs.Substitute.{AreNodes};
 ghost use Rattle.std.specs.Option.{option_map};
 ghost use Rattle.cb_boole.specs.Elimination.{DependsOnly};
 ghost use Rattle.cb_boole.specs.View.{InRange, IsFit, point};
 ghost use Rattle.cb_solution.specs.Solution.{IsFalling, has_refused};
-ghost use Rattle.cb_elim.specs.Store.{Seen, AddsSlot, IsStore, IsArgument, IsAsBefore, OnlyNodes, AreThere, HasSameRange, IsNewVariable, empty, value_in, view_of, with_fulls};
+ghost use Rattle.cb_elim.specs.Store.{Seen, AddsSlot, IsStore, IsArgument, IsAsBefore, OnlyNodes, AreThere, HasSameRange, IsNewVariable, empty, slot_bits, value_in, view_of, with_fulls};
 ghost use Rattle.cb_model.specs.Values.{expr_value, in_scope};
 ghost use Rattle.std.specs.Borrow.{sem};
 ghost use Rattle.cb_elim.specs.Lending.{LendsOps};
-ghost use Rattle.cb_elim.specs.Laws.{NoneIsRefuted, RangeGrows, SolvedIsSolvable, live_levels};
+ghost use Rattle.cb_elim.specs.Laws.{IsDecidedBy, NoneIsRefuted, RangeGrows, SolvedIsSolvable, live_levels};
 ghost use Rattle.cb_elim.specs.Expression.{AreLevels, ExprCause, ExprRoom, variable_bits};
 ghost use Rattle.cb_elim.specs.Equation.{AreMoved, GeneralRoom, MovedRoom};
 ghost use Rattle.cb_ops.specs.Support.{IsListed};
@@ -534,11 +534,17 @@ pub fn values_depend_on_live_levels()
     ensures { (s : Seen) → IsStore s → AreLevels s.nodes.triples s.constants s.slots (live_levels s) }
 {}
 
-/// A store to which nodes alone were added is one, each node that could be handed to it still can, and each moment is
-/// kept: what who borrows the operations owes, and gets.
+/// A store to which nodes alone were added is one, with the same range and the same bits of its slots; each node that could
+/// be handed to it still can, and so can each new node whose bit is a function of the bits of such nodes, however many;
+/// and each moment is kept: what who borrows the operations owes, and gets. The value of a node that may be handed to a
+/// store is the same at all bits of the levels that give one pair of the range.
 pub fn loans_are_safe()
     ensures store { (s : Seen) (t : Nodes) → IsStore s → Grows s.nodes t → IsStore (record s { nodes = t }) }
+    ensures range { (s : Seen) (t : Nodes) → IsStore s → Grows s.nodes t → HasSameRange (view_of s) (view_of (record s { nodes = t })) }
+    ensures bits { (s : Seen) (t : Nodes) → IsStore s → Grows s.nodes t → (a w : Bits) (x : ℕ) → slot_bits (view_of (record s { nodes = t })) a w x ≡ slot_bits (view_of s) a w x }
     ensures arguments { (s : Seen) (t : Nodes) → IsStore s → Grows s.nodes t → (n : ℕ) → IsArgument s n → IsArgument (record s { nodes = t }) n }
+    ensures functions { (s : Seen) (t : Nodes) → IsStore s → Grows s.nodes t → (fs : List ℕ) (n : ℕ) → Each (IsArgument s) fs → IsDecidedBy s.nodes t fs n → IsArgument (record s { nodes = t }) n }
+    ensures choices { (s : Seen) (t : Nodes) → IsStore s → Grows s.nodes t → (f g h n : ℕ) → Each (IsArgument s) (f ∷ g ∷ h ∷ []) → IsNode t.triples n → IsIte s.nodes.triples t.triples f g h n → IsArgument (record s { nodes = t }) n }
+    ensures values { (s : Seen) (n : ℕ) → IsStore s → IsArgument s n → (a b : Bits) (r : InRange (view_of s) a b) → function_of s.nodes.triples n (point (view_of s).stands a b) ≡ function_of s.nodes.triples n r.at }
     ensures moments { (s : Seen) (t : Nodes) → Grows s.nodes t → KeepsMoments s (record s { nodes = t }) }
-    ensures connectives { (s : Seen) → IsStore s → (f g n : ℕ) (op : Bool → Bool → Bool) → IsArgument s f → IsArgument s g → IsNode s.nodes.triples n → ((p : Bits) → function_of s.nodes.triples n p ≡ op (function_of s.nodes.triples f p) (function_of s.nodes.triples g p)) → IsArgument s n }
 {}
