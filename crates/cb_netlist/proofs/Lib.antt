@@ -1,2 +1,5 @@
 pub mod Parts
 pub mod Netlists
+pub mod Steps
+pub mod Wholes
+pub mod Frames

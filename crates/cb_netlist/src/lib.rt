@@ -2,5 +2,7 @@
 #![tactic(auto)]
 
 mod netlist;
+mod walk;
 
 pub use netlist::{Netlist, Part};
+pub use walk::flatten;
