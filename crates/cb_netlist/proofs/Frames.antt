@@ -7,9 +7,9 @@ use Rattle.cb_model.specs.Bits.{Each}
 use Rattle.cb_flat.specs.Walk as walk
 use Rattle.cb_flat.specs.Walk.{Part, AGate, AModule, Filled, placed_net, entered}
 use Rattle.cb_netlist.specs.declared.walk.Frame.{Frame}
-use Rattle.cb_netlist.specs.Wiring.{Wiring}
+use Rattle.cb_netlist.specs.Wiring.{Wiring, wiring_at}
 use Rattle.cb_netlist.specs.Places.{no_filled, filled_at}
-use Rattle.cb_netlist.specs.Walking.{wiring_at, numbers_at, IsWalk, IsStep, frame_of}
+use Rattle.cb_netlist.specs.Walking.{numbers_at, IsWalk, IsStep, frame_of}
 use Rattle.cb_netlist.proofs.Steps.{next-known, leave-step, emit-room, emit-step, enter-step}
 
 left-next : (fs : List Filled) (at : ℕ) → at < length fs → drop at fs ≡ slice_index_or fs at no_filled ∷ drop (at + 1) fs

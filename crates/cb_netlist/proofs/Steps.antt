@@ -8,8 +8,8 @@ use Rattle.cb_model.specs.declared.Gate.{Gate}
 use Rattle.cb_model.specs.Bits.{Each}
 use Rattle.cb_flat.specs.Walk.{Numbered, Part, AGate, AModule, Filled, Frame, still, whole_net, behind, entered}
 use Rattle.cb_flat.proofs.Walk.{walk_keeps}
-use Rattle.cb_netlist.specs.Wiring.{Wiring}
-use Rattle.cb_netlist.specs.Walking.{wiring_at, numbers_at, PartTakes, part_count, IsSized, AreGates, IsFrame, gates_at, all_gates, part_weight, weight, frame_weight, IsWalk, IsStep}
+use Rattle.cb_netlist.specs.Wiring.{Wiring, wiring_at}
+use Rattle.cb_netlist.specs.Walking.{numbers_at, PartTakes, part_count, IsSized, AreGates, IsFrame, gates_at, all_gates, part_weight, weight, frame_weight, IsWalk, IsStep}
 
 pub long-map : {X Y : Type 0} (h : X → Y) (xs : List X) → length (map h xs) ≡ length xs
 long-map h [] = refl

@@ -10,9 +10,9 @@ use Rattle.cb_model.specs.Circuits.{Net, Flat, no_flat, net_number, gates_from, 
 use Rattle.cb_flat.specs.Walk.{Numbered, Part, AGate, AModule, Filled, Frame, part_gates, placed_gate, whole_net, whole_gate}
 use Rattle.cb_flat.specs.Drivers.{numbered_gates}
 use Rattle.cb_flat.proofs.Walk.{of-gate, of-module}
-use Rattle.cb_netlist.specs.Wiring.{Wiring}
+use Rattle.cb_netlist.specs.Wiring.{Wiring, wiring_at}
 use Rattle.cb_netlist.specs.Netlists.{flat_at, gates_in, TakesPins, IsPlaced, AreNetlists}
-use Rattle.cb_netlist.specs.Walking.{wiring_at, numbers_at, PartTakes, part_count, IsSized, AreSized, AreGates, gates_at, all_gates, first_frame, IsWalk}
+use Rattle.cb_netlist.specs.Walking.{numbers_at, PartTakes, part_count, IsSized, AreSized, AreGates, gates_at, all_gates, first_frame, IsWalk}
 use Rattle.cb_netlist.proofs.Steps.{long-map}
 
 get-take : {A : Type 0} (xs : List A) (k q : ℕ) (d : A) → q < k → get_or (take k xs) q d ≡ get_or xs q d

@@ -4,7 +4,7 @@ use Rattle.cb_model.specs.Bits.{Each}
 use Rattle.cb_model.specs.Circuits.{Flat, no_flat, net_number}
 use Rattle.cb_flat.specs.Walk.{Part, AGate, AModule, Filled, part_gates}
 use Rattle.cb_flat.specs.Drivers.{numbered_gates}
-use Rattle.cb_netlist.specs.Wiring.{Wiring, no_wiring}
+use Rattle.cb_netlist.specs.Wiring.{Wiring, wiring_at}
 
 -- the flattened module of a number
 abbrev pub flat_at : List Flat → ℕ → Flat
@@ -37,4 +37,4 @@ pub record IsNetlist (earlier : List Flat) (f : Flat) (n : Wiring) : Type 0 wher
 -- each netlist is that of the flattened module with its number
 pub record AreNetlists (flats : List Flat) (ns : List Wiring) : Type 0 where
   pub as_many : length ns ≡ length flats
-  pub each : (k : ℕ) → k < length ns → IsNetlist (take k flats) (flat_at flats k) (get_or ns k no_wiring)
+  pub each : (k : ℕ) → k < length ns → IsNetlist (take k flats) (flat_at flats k) (wiring_at ns k)

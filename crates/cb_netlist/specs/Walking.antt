@@ -1,15 +1,11 @@
 -- The walk over netlists that flattens a module.
-use Rattle.std.specs.Prelude.{◌≡◌, ℕ, zero, suc, ◌+◌, ◌^◌, ◌<◌, ◌≤◌, List, [], ◌∷◌, ◌++◌, map, length, drop, get_or, sum_by}
+use Rattle.std.specs.Prelude.{◌≡◌, ℕ, zero, suc, ◌+◌, ◌^◌, ◌<◌, ◌≤◌, List, [], ◌∷◌, ◌++◌, map, length, drop, sum_by}
 use Rattle.cb_model.specs.declared.Gate.{Gate}
 use Rattle.cb_model.specs.Bits.{Each, numbers}
 use Rattle.cb_flat.specs.Walk as walk
 use Rattle.cb_flat.specs.Walk.{Numbered, Part, AGate, AModule, Filled, Numbers, GatesAre, still}
-use Rattle.cb_netlist.specs.Wiring.{Wiring, no_wiring}
+use Rattle.cb_netlist.specs.Wiring.{Wiring, wiring_at}
 use Rattle.cb_netlist.specs.declared.walk.Frame.{Frame}
-
--- the module of a number
-abbrev pub wiring_at : List Wiring → ℕ → Wiring
-wiring_at ns k = get_or ns k no_wiring
 
 abbrev pub numbers_at : List Wiring → ℕ → Numbers
 numbers_at ns k = record { inputs = (wiring_at ns k).inputs; filled = (wiring_at ns k).filled }

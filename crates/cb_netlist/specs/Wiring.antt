@@ -1,5 +1,5 @@
 -- A module by plain numbers.
-use Rattle.std.specs.Prelude.{ℕ, List, [], ◌∷◌, ◌++◌}
+use Rattle.std.specs.Prelude.{ℕ, List, [], ◌∷◌, ◌++◌, get_or}
 use Rattle.cb_flat.specs.Walk.{Filled}
 
 -- what contracts see of a netlist: how many inputs the module has, its instances that have gates, what drives each of
@@ -14,6 +14,10 @@ pub record Wiring : Type 0 where
 -- stands where there is no such module
 abbrev pub no_wiring : Wiring
 no_wiring = record { inputs = 0; filled = []; outputs = []; gates = 0 }
+
+-- the module of a number
+abbrev pub wiring_at : List Wiring → ℕ → Wiring
+wiring_at ns k = get_or ns k no_wiring
 
 -- nothing in it yet
 abbrev pub bare_wiring : ℕ → ℕ → Wiring

@@ -2,9 +2,9 @@ ghost use Rattle.std.specs.Prelude.{◌≡◌, ℕ, ◌+◌, ◌-◌, ◌<◌, �
 ghost use Rattle.cb_model.specs.Bits.{Each, numbers};
 ghost use Rattle.cb_model.specs.Circuits.{Flat, circuit_of};
 ghost use Rattle.cb_flat.specs.Walk.{Numbered, placed_net};
-ghost use Rattle.cb_netlist.specs.Wiring.{Wiring};
+ghost use Rattle.cb_netlist.specs.Wiring.{Wiring, wiring_at};
 ghost use Rattle.cb_netlist.specs.Netlists.{AreNetlists, flat_at};
-ghost use Rattle.cb_netlist.specs.Walking.{AreGates, IsStep, IsWalk, all_gates, first_frame, frame_of, frames_of, wiring_at};
+ghost use Rattle.cb_netlist.specs.Walking.{AreGates, IsStep, IsWalk, all_gates, first_frame, frame_of, frames_of};
 
 use crate::netlist::{Netlist, Part};
 use cb_model::{Circuit, Gate, GateKind};

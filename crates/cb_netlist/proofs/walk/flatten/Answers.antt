@@ -1,7 +1,7 @@
 use Rattle.std.proofs.Common.{◌≡◌, ◌+◌, sym, ap, ◌∙◌}
 use Rattle.std.proofs.lemmas.List.{get_or_read}
-use Rattle.cb_netlist.specs.Wiring.{Wiring, no_wiring}
-use Rattle.cb_netlist.specs.Walking.{wiring_at, frames_of}
+use Rattle.cb_netlist.specs.Wiring.{Wiring, no_wiring, wiring_at}
+use Rattle.cb_netlist.specs.Walking.{frames_of}
 use Rattle.cb_netlist.proofs.Wholes.{are-gates, gates_by, first-walk, walk-first, all-first, circuit-is}
 use Rattle.cb_netlist.proofs.walk.flatten.Goals as goal
 

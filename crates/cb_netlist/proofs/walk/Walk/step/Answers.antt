@@ -6,8 +6,8 @@ use Rattle.cb_model.specs.Bits.{Each}
 use Rattle.cb_flat.specs.Walk as walk
 use Rattle.cb_flat.specs.Walk.{placed_net}
 use Rattle.cb_netlist.specs.declared.walk.Frame.{Frame}
-use Rattle.cb_netlist.specs.Wiring.{Wiring, no_wiring}
-use Rattle.cb_netlist.specs.Walking.{wiring_at, frame_of, frames_of, IsWalk, IsStep}
+use Rattle.cb_netlist.specs.Wiring.{Wiring, no_wiring, wiring_at}
+use Rattle.cb_netlist.specs.Walking.{frame_of, frames_of, IsWalk, IsStep}
 use Rattle.cb_netlist.proofs.Steps.{next-known}
 use Rattle.cb_netlist.proofs.Frames.{leave-here, nets-long, nets-small, pins-within, first-within, gate-room, gate-here, module-here}
 use Rattle.cb_netlist.proofs.walk.Walk.step.Goals as goal
