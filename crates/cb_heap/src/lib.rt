@@ -271,6 +271,14 @@ impl Heap {
         }
     }
 
+    /// How many cells were bound since the moment and not taken back, as `bound` lists them. It takes no memory.
+    pub fn count_bound(&self, since: HeapMark) -> u64
+        requires { IsMoment since self.now }
+        ensures { result ≡ length (rewritten_since since self.now) }
+    {
+        self.trail.mark() - since.trail
+    }
+
     /// The moment, to which a later `undo` can return. It takes no memory.
     pub fn mark(&self) -> HeapMark
         requires { IsHeap self.now }

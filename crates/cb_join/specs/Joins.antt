@@ -1,0 +1,105 @@
+-- Cells that are made one, and what they owe.
+use Rattle.std.specs.Prelude.{◌≡◌, ◌↔◌, ℕ, suc, ◌+◌, ◌<◌, ◌≤◌, List, [], ◌∷◌, length, Some, None, slice_get}
+use Rattle.cb_model.specs.declared.Sort.{Sort}
+use Rattle.cb_model.specs.Bits.{Bits, Each}
+use Rattle.cb_model.specs.Values.{Sorts}
+use Rattle.cb_heap.specs.declared.Stored.{Stored}
+use Rattle.cb_heap.specs.declared.Stored.TheVariants as cell
+use Rattle.cb_heap.specs.Reading.{Reading, IsReading, Agree, AgreeBits, side_by_side}
+use Rattle.cb_heap.specs.Finite.{IsSorted}
+use Rattle.cb_heap.specs.Links.{IsLinked, link_of}
+
+-- the same outermost form
+abbrev pub Alike : Stored → Stored → Type 0
+Alike (cell.Leaf s) (cell.Leaf z) = Unit {0}
+Alike cell.BusNil cell.BusNil = Unit {0}
+Alike (cell.BusCons h l) (cell.BusCons i m) = Unit {0}
+Alike (cell.Int i) (cell.Int j) = i ≡ j
+Alike (cell.Node n k) (cell.Node m j) = (n ≡ m) × (k ≡ j)
+Alike _ _ = ⊥
+
+-- the pairs of cells that are left to be equal when cells l and r with these forms are
+abbrev pub owed_pairs : ℕ → ℕ → Stored → Stored → List (ℕ × ℕ)
+owed_pairs l r (cell.BusCons h x) (cell.BusCons i y) = (h.0, i.0) ∷ (x.0, y.0) ∷ []
+owed_pairs l r (cell.Node n k) b = side_by_side (suc l) (suc r) k
+owed_pairs l r _ _ = []
+
+-- the pairs of slots
+abbrev pub owed_leaves : Stored → Stored → List (ℕ × ℕ)
+owed_leaves (cell.Leaf s) (cell.Leaf z) = (s, z) ∷ []
+owed_leaves _ _ = []
+
+-- both cells of each pair are there
+abbrev pub IsWithin : List Stored → List (ℕ × ℕ) → Type 0
+IsWithin cs ps = Each (λ p. (p.0 < length cs) × (p.1 < length cs)) ps
+
+-- what a cell can still ask for
+abbrev pub work_of : Stored → ℕ
+work_of (cell.BusCons h l) = 3
+work_of (cell.Node n k) = suc k
+work_of (cell.Bound to) = 0
+work_of (cell.Same to) = 0
+work_of _ = 1
+
+abbrev pub work : List Stored → ℕ
+work [] = 0
+work (c ∷ cs) = work_of c + work cs
+
+-- The new cells and pairs say what the old ones did, for every table of sorts, every choice of bits and all values.
+abbrev pub Joined : List Sort → List Stored → List (ℕ × ℕ) → List (ℕ × ℕ) → List Stored → List (ℕ × ℕ) → List (ℕ × ℕ) → Type 0
+Joined ss cs ps ls cs' ps' ls' = (t : Sorts) (w : Bits) (g : Reading) →
+    (IsReading t w ss cs g × Agree g ps × AgreeBits w ls) ↔ (IsReading t w ss cs' g × Agree g ps' × AgreeBits w ls')
+
+-- no link stands in the cell
+abbrev pub IsEnd : List Stored → ℕ → Type 0
+IsEnd cs r = (c : Stored) × (slice_get cs r ≡ Some c) × (link_of c ≡ None)
+
+-- how many cells behind it a cell owes
+abbrev pub owed_most : Stored → ℕ
+owed_most (cell.Node n k) = suc k
+owed_most _ = 0
+
+-- no values make the cells agree
+abbrev pub Clashes : List Sort → List Stored → ℕ → ℕ → Type 0
+Clashes ss cs l r = (t : Sorts) (w : Bits) (g : Reading) → IsReading t w ss cs g → g l ≡ g r → ⊥
+
+-- the leaves' slots, and those of the pairs, have numbers below n
+abbrev pub SlotsBelow : ℕ → List Stored → Type 0
+SlotsBelow n cs = (r s : ℕ) → slice_get cs r ≡ Some (cell.Leaf s) → s < n
+
+-- the leaves' slots rise from k on, and are below n
+abbrev pub Rising : ℕ → ℕ → List Stored → Type 0
+Rising n k [] = k ≤ n
+Rising n k (cell.Leaf s ∷ cs) = (k ≤ s) × Rising n (suc s) cs
+Rising n k (_ ∷ cs) = Rising n k cs
+
+-- how many cells are leaves
+abbrev pub leaf_of : Stored → ℕ
+leaf_of (cell.Leaf s) = 1
+leaf_of _ = 0
+
+abbrev pub leaf_count : List Stored → ℕ
+leaf_count [] = 0
+leaf_count (c ∷ cs) = leaf_of c + leaf_count cs
+
+abbrev pub LeavesBelow : ℕ → List (ℕ × ℕ) → Type 0
+LeavesBelow n ls = Each (λ q. (q.0 < n) × (q.1 < n)) ls
+
+-- what joining cells keeps: the sorts, the leaves' slots in their order, and that there are no more slots than before
+pub record KeepsLeaves (ss : List Sort) (cs : List Stored) (ls : List (ℕ × ℕ)) (cs' : List Stored) (ls' : List (ℕ × ℕ)) : Type 0 where
+  pub sorted : (t : Sorts) → IsSorted t ss cs → IsSorted t ss cs'
+  pub slots : (n : ℕ) → SlotsBelow n cs → LeavesBelow n ls → SlotsBelow n cs' × LeavesBelow n ls'
+  pub rises : (n k : ℕ) → Rising n k cs → Rising n k cs'
+  pub fewer : length ls' + leaf_count cs' ≤ length ls + leaf_count cs
+
+-- Cells l and r were made one: what is left says the same, and there is less to do.
+pub record Equated (ss : List Sort) (cs : List Stored) (ps ls : List (ℕ × ℕ)) (l r : ℕ) (cs' : List Stored) (ps' ls' : List (ℕ × ℕ)) : Type 0 where
+  pub joined : Joined ss cs ((l, r) ∷ ps) ls cs' ps' ls'
+  pub linked : IsLinked cs'
+  pub within : IsWithin cs' ps'
+  pub keeps : KeepsLeaves ss cs ls cs' ls'
+  pub less : work cs' + length ps' < work cs + suc (length ps)
+
+-- no values make all pairs agree
+abbrev pub NoneAgree : List Sort → List Stored → List (ℕ × ℕ) → List (ℕ × ℕ) → Type 0
+NoneAgree ss cs ps ls = (t : Sorts) (w : Bits) (g : Reading) → IsReading t w ss cs g → Agree g ps → AgreeBits w ls → ⊥
