@@ -14,14 +14,15 @@ use Rattle.cb_model.specs.Grammar.{Form, Variable, Integer, Name, Closed, Open, 
 use Rattle.cb_model.specs.Directives.{Declared}
 use Rattle.cb_model.specs.Sorts.{Place, Body, Subject, Var, Equation, IsSide, left, right, Marked, at_place, by_form, from_side, to_side, HasSort as HasTheSort, IsBit, Clash, two_marks, wrong_place, wrong_side, bit_at_bus, bit_of_bus, form_sort, number_in, head_places, goals_places, goal_places, all_places}
 use Rattle.cb_model.specs.Loading.{body_variables, HaveSorts, no_sorts, more_sorts}
-use Rattle.cb_marks.specs.Marks.{HasSort, given, along, back, HasOneSort}
-use Rattle.cb_marks.specs.declared.Stop.{Stop}
-use Rattle.cb_marks.specs.declared.Stop.TheVariants as stop
+use Rattle.cb_marking.specs.Marks.{HasSort, given, along, back, HasOneSort}
+use Rattle.cb_marking.specs.declared.links.Stop.{Stop}
+use Rattle.cb_marking.specs.declared.links.Stop.TheVariants as stop
 use Rattle.cb_marking.specs.declared.walk.Walk.{Walk}
-use Rattle.cb_marking.specs.Places.{is_bit, same_sort, sort_fits, place_fits}
+use Rattle.cb_marking.specs.Places.{is_bit, sort_fits, place_fits}
 use Rattle.cb_marking.specs.Walk.{thing_of, all_fit}
 use Rattle.cb_marking.specs.Marking.{Sorted, IsMarking, Refuses}
 use Rattle.cb_marking.specs.Kept.{IsKept, Decides, Undecided}
+use Rattle.cb_marking.proofs.SameSort.{same_sorts, other_sorts}
 use Rattle.cb_marking.proofs.Follows.{IsDistinct, any_within, at_first, numbered, all_there, there_within}
 use Rattle.cb_marking.proofs.Sides.{goal_given, goal_edges, goal_bits, goal_met, each}
 use Rattle.cb_marking.proofs.Members.{numbered_has, numbered_whole, there_at, fits_at, misfit_at, each_has, each_whole, places_each, HasSide, goal_has, goal_place, goal_form_given, goal_edge, goal_linked, place_met, side_is_met, goal_bit, goal_bit_noted}
@@ -71,26 +72,7 @@ name_under xs x h =
 number_within : (xs : List Text) (x : Text) → list_any (bytes_eq x) xs ≡ true → number_in xs x < length xs
 number_within xs x h = let e : number_in xs x ≡ position_or_len (bytes_eq x) xs = at_first (bytes_eq x) xs h in let l = any_within (bytes_eq x) xs h in omega arith
 
--- ---- tests of sorts
-
-same_sorts : (s t : Sort) → same_sort s t ≡ true → s ≡ t
-same_sorts sort.Bool sort.Bool h = refl
-same_sorts sort.Bus sort.Bus h = refl
-same_sorts sort.Term sort.Term h = refl
-same_sorts sort.Bool sort.Bus h = absurd (false≢true h)
-same_sorts sort.Bool sort.Term h = absurd (false≢true h)
-same_sorts sort.Bus sort.Bool h = absurd (false≢true h)
-same_sorts sort.Bus sort.Term h = absurd (false≢true h)
-same_sorts sort.Term sort.Bool h = absurd (false≢true h)
-same_sorts sort.Term sort.Bus h = absurd (false≢true h)
-
-other_sorts : (s t : Sort) → same_sort s t ≡ false → t ≢ s
-other_sorts s t h e = false≢true (sym h ∙ ap (same_sort s) e ∙ self s)
-  where
-    self : (s : Sort) → same_sort s s ≡ true
-    self sort.Bool = refl
-    self sort.Bus = refl
-    self sort.Term = refl
+-- ---- forms 0 and 1
 
 bit_is : (f : Form) → IsBit f → is_bit f ≡ true
 bit_is f (inl e) = ap is_bit e

@@ -5,7 +5,7 @@ use Rattle.std.proofs.lemmas.List.{take_more, get_or-take, get_or_default}
 use Rattle.std.proofs.lemmas.List.Elements.{Contains-get_or, Contains-push_cases}
 use Rattle.cb_model.specs.declared.Sort.{Sort}
 use Rattle.cb_model.specs.declared.Sort.TheVariants as sort
-use Rattle.cb_marks.specs.Marks.{HasSort, AreSorts, HasOneSort}
+use Rattle.cb_marking.specs.Marks.{HasSort, AreSorts, HasOneSort}
 use Rattle.cb_marking.specs.declared.walk.Walk.{Walk}
 use Rattle.cb_marking.specs.Kept.{IsKept, Decides}
 

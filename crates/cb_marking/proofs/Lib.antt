@@ -1,3 +1,9 @@
+pub mod Lists
+pub mod SameSort
+pub mod Seen
+pub mod Reach
+pub mod Table
+pub mod One
 pub mod Parts
 pub mod Left
 pub mod Remaining

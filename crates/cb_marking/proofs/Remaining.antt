@@ -9,8 +9,8 @@ use Rattle.cb_model.specs.Forms.{goal_form}
 use Rattle.cb_model.specs.Written.{goal_written}
 use Rattle.cb_model.specs.Directives.{Declared}
 use Rattle.cb_model.specs.Sorts.{goal_places, goals_places}
-use Rattle.cb_marks.specs.declared.Stop.{Stop}
-use Rattle.cb_marks.specs.declared.Stop.TheVariants as stop
+use Rattle.cb_marking.specs.declared.links.Stop.{Stop}
+use Rattle.cb_marking.specs.declared.links.Stop.TheVariants as stop
 use Rattle.cb_marking.specs.declared.walk.Walk.{Walk}
 use Rattle.cb_marking.specs.Walk.{goal_walked, goals_walked, all_fit, Meets, Stops}
 use Rattle.cb_marking.proofs.Left.{all_fit-append}

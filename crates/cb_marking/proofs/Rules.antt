@@ -8,8 +8,8 @@ use Rattle.cb_model.specs.Written.{is_name, goal_written}
 use Rattle.cb_model.specs.Directives.{Sign, Declared, sorts_of}
 use Rattle.cb_model.specs.Sorts.{Place, Body, apart, apart_goal, apart_goals, call_places, goals_places, all_places, head_places}
 use Rattle.cb_model.specs.Loading.{body_of, query_body, variables_of, goals_variables, body_variables}
-use Rattle.cb_marks.specs.declared.Stop.{Stop}
-use Rattle.cb_marks.specs.declared.Stop.TheVariants as stop
+use Rattle.cb_marking.specs.declared.links.Stop.{Stop}
+use Rattle.cb_marking.specs.declared.links.Stop.TheVariants as stop
 use Rattle.cb_marking.specs.declared.walk.Walk.{Walk}
 use Rattle.cb_marking.specs.Walk.{fresh, walked, goals_walked, all_fit, Walks, Meets, Stops}
 use Rattle.cb_marking.specs.Marking.{Sorted, IsMarking, Refuses}

@@ -1,3 +1,5 @@
+pub mod Marks
+pub mod Search
 pub mod Places
 pub mod Walk
 pub mod Marking

@@ -6,8 +6,8 @@ use Rattle.cb_model.specs.declared.Sort.TheVariants as sort
 use Rattle.cb_model.specs.Directives.{Declared}
 use Rattle.cb_model.specs.Sorts.{Body, Equation, HasSort, Clash}
 use Rattle.cb_model.specs.Loading.{body_variables, HaveSorts}
-use Rattle.cb_marks.specs.declared.Stop.{Stop}
-use Rattle.cb_marks.specs.declared.Stop.TheVariants as stop
+use Rattle.cb_marking.specs.declared.links.Stop.{Stop}
+use Rattle.cb_marking.specs.declared.links.Stop.TheVariants as stop
 
 -- the variables, the sort of each, and a sort for each goal, which is that of the equation where the goal is one
 pub record Sorted : Type 0 where

@@ -6,6 +6,7 @@ use Rattle.cb_model.specs.declared.Sort.TheVariants as sort
 use Rattle.cb_model.specs.Grammar.{Form, Integer}
 use Rattle.cb_model.specs.Directives.{Declared, nothing, sorts_of}
 use Rattle.cb_model.specs.Sorts.{Place, form_sort}
+use Rattle.cb_model.specs.Sorted.{same_sort}
 
 -- whether an integer is 0 or 1
 abbrev pub is_truth_value : ℤ → Bool
@@ -17,13 +18,6 @@ is_truth_value _ = false
 abbrev pub is_bit : Form → Bool
 is_bit (Integer z) = is_truth_value z
 is_bit _ = false
-
--- whether two sorts are the same
-abbrev pub same_sort : Sort → Sort → Bool
-same_sort sort.Bool sort.Bool = true
-same_sort sort.Bus sort.Bus = true
-same_sort sort.Term sort.Term = true
-same_sort _ _ = false
 
 -- whether what has this sort by its form, and is 0 or 1 or not, may stand at a sort
 abbrev pub sort_fits : Sort → Option Sort → Bool → Bool

@@ -7,8 +7,8 @@ use Rattle.cb_model.specs.Grammar.{Form, Variable, FormGoal, ACall, AnEqual}
 use Rattle.cb_model.specs.Directives.{Declared}
 use Rattle.cb_model.specs.Sorts.{Place, own_name, form_sort, below, call_places, number_in}
 use Rattle.cb_model.specs.Loading.{add_name}
-use Rattle.cb_marks.specs.declared.Stop.{Stop}
-use Rattle.cb_marks.specs.declared.Stop.TheVariants as stop
+use Rattle.cb_marking.specs.declared.links.Stop.{Stop}
+use Rattle.cb_marking.specs.declared.links.Stop.TheVariants as stop
 use Rattle.cb_marking.specs.declared.walk.Walk.{Walk}
 use Rattle.cb_marking.specs.Places.{is_bit, place_fits}
 

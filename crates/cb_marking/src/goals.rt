@@ -8,10 +8,10 @@ ghost use Rattle.cb_model.specs.Sorts.{form_sort, below, call_places, goal_place
 ghost use Rattle.cb_marking.specs.Places.{is_bit};
 ghost use Rattle.cb_marking.specs.Walk.{noted, gave_some, side_walked, goal_walked, goals_walked, fresh, Walks, Meets, Stops, Memory};
 
+use crate::links::{Links, Stop};
 use crate::terms::{is_bit, sort_by_form};
 use crate::walk::Walk;
 use cb_directives::{Declarations, is_circuit};
-use cb_marks::{Links, Stop};
 use cb_model::{RawGoal, RawTerm, Sort};
 use cb_variables::Variables;
 use sqlite_items::Items;

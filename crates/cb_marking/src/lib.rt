@@ -2,8 +2,10 @@
 #![tactic(auto)]
 
 mod goals;
+mod links;
 mod marking;
 mod terms;
 mod walk;
 
+pub use links::Stop;
 pub use marking::{Marking, mark_query, mark_rule};

@@ -9,9 +9,9 @@ ghost use Rattle.cb_model.specs.Loading.{body_of, query_body};
 ghost use Rattle.cb_marking.specs.Marking.{IsMarking, Refuses};
 ghost use Rattle.cb_marking.specs.Kept.{IsKept, sorted_by, Decides, Undecided};
 
+use crate::links::Stop;
 use crate::walk::Walk;
 use cb_directives::Declarations;
-use cb_marks::Stop;
 use cb_model::{RawGoal, RawTerm, Sort};
 use cb_variables::Variables;
 use sqlite_items::Items;

@@ -4,7 +4,8 @@ ghost use Rattle.std.specs.Prelude.{◌≡◌, ℕ, get_or};
 ghost use Rattle.cb_model.specs.declared.Sort.TheVariants as sort;
 ghost use Rattle.cb_model.specs.Forms.{form_of};
 ghost use Rattle.cb_model.specs.Sorts.{form_sort};
-ghost use Rattle.cb_marking.specs.Places.{is_truth_value, is_bit, same_sort, place_fits, sorts_given};
+ghost use Rattle.cb_model.specs.Sorted.{same_sort};
+ghost use Rattle.cb_marking.specs.Places.{is_truth_value, is_bit, place_fits, sorts_given};
 
 use cb_directives::Declarations;
 use cb_model::{RawTerm, Sort};
@@ -54,7 +55,7 @@ pub(crate) fn is_bit(term: &RawTerm<'_>) -> bool
 }
 
 /// Whether two sorts are the same.
-fn is_sort(own: Sort, sort: Sort) -> bool
+pub(crate) fn is_sort(own: Sort, sort: Sort) -> bool
     ensures { result ≡ same_sort own sort }
 {
     match (own, sort) {

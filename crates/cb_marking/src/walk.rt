@@ -10,9 +10,9 @@ ghost use Rattle.cb_model.specs.Sorts.{below, operand_places, argument_places};
 ghost use Rattle.cb_marking.specs.Places.{sorts_given};
 ghost use Rattle.cb_marking.specs.Walk.{name_at, thing_of, saw, gave, linked, noted, at, Walks, Stops, Memory};
 
+use crate::links::{Links, Stop};
 use crate::terms::{fits, is_bit, sort_at, sort_by_form};
 use cb_directives::Declarations;
-use cb_marks::{Links, Stop};
 use cb_model::{RawGoal, RawTerm, Sort};
 use cb_variables::{Variable, Variables};
 use sqlite_items::Items;

@@ -13,7 +13,8 @@ mod tokens;
 mod told;
 mod trees;
 
-use cb_sorts::{LoadError, Program, load};
+use cb_directives::LoadError;
+use cb_sorts::{Program, load};
 use cb_syntax::{ReadError, read_clauses};
 use std::alloc::Global;
 use std::io::Write;

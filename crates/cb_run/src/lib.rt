@@ -18,6 +18,7 @@ ghost use Rattle.cb_run.specs.Running.{AllAsk, AllTold, AskedRun, CanBeTold, Fil
 
 use cb_accept::Accepted;
 use cb_boolean::are_equations;
+use cb_directives::LoadError;
 use cb_equations::equations_read;
 use cb_host::{Load, Sink, Source, read_within, write_all};
 use cb_lines::ended::finish;
@@ -26,7 +27,7 @@ use cb_lines::refusals::{Whose, unloaded, unread};
 use cb_lines::words::Nodes;
 use cb_model::{Outcome, RawQuery, Side};
 use cb_queries::tell;
-use cb_sorts::{LoadError, Program, Query, queries_over_file};
+use cb_sorts::{Program, Query, queries_over_file};
 use cb_syntax::read_queries;
 use std::alloc::Global;
 

@@ -12,7 +12,6 @@ mod printed;
 mod program;
 mod query;
 
-pub use cb_directives::LoadError;
 pub use loading::load;
 pub use program::Program;
 pub use query::Query;

@@ -5,8 +5,8 @@ use Rattle.std.proofs.Math.ListN.{length-set}
 use Rattle.std.proofs.lemmas.List.{get_or-set_other}
 use Rattle.std.proofs.lemmas.List.Elements.{Contains-push, Contains-push_cases, Contains-append_left, Contains-append_right, Contains-append_cases}
 use Rattle.std.proofs.lemmas.Bool.{cases_eq}
-use Rattle.cb_marks.specs.Search.{IsSeen, unseen, Visited}
-use Rattle.cb_marks.proofs.Lists.{none_in, one_in, at_place}
+use Rattle.cb_marking.specs.Search.{IsSeen, unseen, Visited}
+use Rattle.cb_marking.proofs.Lists.{none_in, one_in, at_place}
 
 -- a thing that is seen is one of the things
 pub seen_within : (seen : List Bool) (x : ℕ) → IsSeen seen x → x < length seen

@@ -1,18 +1,18 @@
 //! Sorts of linked things: each link passes sorts on, both ways.
-#![tactic(auto)]
 
-ghost use Rattle.std.specs.Prelude.{◌≡◌, ◌<◌, ◌∷◌, ◌++◌, [], ℕ, Contains, OnOk, IfOk, MatchBool, MatchResult, length, replicate, get_or, slice_set, false};
+ghost use Rattle.std.specs.Prelude.{◌≡◌, ◌<◌, ◌∷◌, ◌++◌, [], ℕ, Contains, OnOk, IfOk, MatchResult, length, replicate, get_or, slice_set, false};
 ghost use Rattle.cb_model.specs.declared.Sort.TheVariants as sort;
-ghost use Rattle.cb_marks.specs.Marks.{IsWithin, AreSorts, Stops};
-ghost use Rattle.cb_marks.specs.Search.{IsTable, HasStarts, Visited, Reaches, one_of};
+ghost use Rattle.cb_marking.specs.Marks.{IsWithin, AreSorts, Stops};
+ghost use Rattle.cb_marking.specs.Search.{IsTable, HasStarts, Visited, Reaches, one_of};
 
+use crate::terms::is_sort;
 use cb_model::Sort;
 use sqlite_items::Items;
 use std::alloc::{AllocError, Global};
 
 /// Links between numbered things, and the sorts that some things are given.
 #[derive(Drop)]
-pub struct Links {
+pub(crate) struct Links {
     /// Pairs of linked things.
     pub edges: Items<(usize, usize)>,
     /// Things, each with a sort that it is given.
@@ -102,13 +102,6 @@ fn one_sort(is_bool: bool, is_bus: bool, is_term: bool) -> Option<Sort>
     }
 }
 
-/// Whether two sorts are the same.
-fn is_sort(given: Sort, sort: Sort) -> bool
-    ensures { MatchBool result (given ≡ sort) (given ≡ sort → ⊥) }
-{
-    given == sort
-}
-
 /// For each sort the things that have it.
 #[derive(Drop)]
 struct Marks {
@@ -135,7 +128,7 @@ impl Marks {
 
 impl Links {
     /// No links.
-    pub fn new(alloc: Global) -> Links
+    pub(crate) fn new(alloc: Global) -> Links
         ensures edges { result.edges ≡ [] }
         ensures given { result.given ≡ [] }
     {
@@ -146,7 +139,7 @@ impl Links {
     }
 
     /// Links two things.
-    pub fn link(&mut self, thing: usize, other: usize) -> Result<(), AllocError>
+    pub(crate) fn link(&mut self, thing: usize, other: usize) -> Result<(), AllocError>
         ensures edges { OnOk result (self.new.edges ≡ self.old.edges ++ (thing, other) ∷ []) }
         ensures given { self.new.given ≡ self.old.given }
     {
@@ -154,7 +147,7 @@ impl Links {
     }
 
     /// Gives a thing a sort.
-    pub fn give(&mut self, thing: usize, sort: Sort) -> Result<(), AllocError>
+    pub(crate) fn give(&mut self, thing: usize, sort: Sort) -> Result<(), AllocError>
         ensures edges { self.new.edges ≡ self.old.edges }
         ensures given { OnOk result (self.new.given ≡ self.old.given ++ (thing, sort) ∷ []) }
     {
@@ -228,7 +221,7 @@ impl Links {
 
     /// The sort of each of the first things, to which all that is linked or given a sort belongs: the one that it has,
     /// or `Term` where it has none. The time is near linear in the number of things, links and given sorts.
-    pub fn sorts(&self, alloc: Global, things: usize) -> Result<Items<Sort>, Stop>
+    pub(crate) fn sorts(&self, alloc: Global, things: usize) -> Result<Items<Sort>, Stop>
         requires { IsWithin self.now things }
         ensures { MatchResult result (λ ss. AreSorts self.now things ss) (Stops self.now) }
     {

@@ -1,9 +1,9 @@
 use Rattle.std.proofs.Common.{List, ℕ, [], ◌∷◌, ◌++◌, length, get_or, ◌∙◌, ap, subst, arith}
 use Rattle.std.proofs.Math.ListN.{length-set}
-use Rattle.cb_marks.specs.Search.{IsTable}
-use Rattle.cb_marks.proofs.Lists.{take_end}
-use Rattle.cb_marks.proofs.Table.{pair_within, table_next}
-use Rattle.cb_marks.proofs.Links.table.Goals as goal
+use Rattle.cb_marking.specs.Search.{IsTable}
+use Rattle.cb_marking.proofs.Lists.{take_end}
+use Rattle.cb_marking.proofs.Table.{pair_within, table_next}
+use Rattle.cb_marking.proofs.links.Links.table.Goals as goal
 
 pub put-requires : goal.put-requires
 put-requires c =

@@ -1,6 +1,6 @@
 use Rattle.std.proofs.Common.{refl}
-use Rattle.cb_marks.proofs.Reach.{starts_within, Reaching-begin, popped_within, row_within, Reaching-next, Reaching-end}
-use Rattle.cb_marks.proofs.Links.reached.Goals as goal
+use Rattle.cb_marking.proofs.Reach.{starts_within, Reaching-begin, popped_within, row_within, Reaching-next, Reaching-end}
+use Rattle.cb_marking.proofs.links.Links.reached.Goals as goal
 
 pub visit_all-requires : goal.visit_all-requires
 visit_all-requires c =

@@ -5,11 +5,11 @@ use Rattle.std.proofs.lemmas.List.{length-replicate}
 use Rattle.std.proofs.lemmas.List.Elements.{Contains-push, Contains-push_cases, Contains-append_left}
 use Rattle.std.proofs.lemmas.Bool.{false≢true}
 use Rattle.cb_model.specs.declared.Sort.{Sort}
-use Rattle.cb_marks.specs.declared.Links.{Links}
-use Rattle.cb_marks.specs.Marks.{HasSort, given, along, back, IsWithin}
-use Rattle.cb_marks.specs.Search.{Joined, IsTable, HasStarts, IsSeen, Visited, Reaches}
-use Rattle.cb_marks.proofs.Lists.{none_in, replicated}
-use Rattle.cb_marks.proofs.Seen.{seen_within}
+use Rattle.cb_marking.specs.declared.links.Links.{Links}
+use Rattle.cb_marking.specs.Marks.{HasSort, given, along, back, IsWithin}
+use Rattle.cb_marking.specs.Search.{Joined, IsTable, HasStarts, IsSeen, Visited, Reaches}
+use Rattle.cb_marking.proofs.Lists.{none_in, replicated}
+use Rattle.cb_marking.proofs.Seen.{seen_within}
 
 -- all that a thing is linked with is seen
 abbrev pub Closed : List (ℕ × ℕ) → List Bool → ℕ → Type 0

@@ -6,10 +6,10 @@ use Rattle.std.proofs.lemmas.List.{length-replicate, get_or-set_other, take_more
 use Rattle.std.proofs.lemmas.List.Elements.{Contains-push, Contains-push_cases, Contains-append_left, Contains-get_or}
 use Rattle.std.proofs.lemmas.Bool.{cases_eq}
 use Rattle.cb_model.specs.declared.Sort.{Sort}
-use Rattle.cb_marks.specs.declared.Links.{Links}
-use Rattle.cb_marks.specs.Marks.{IsWithin}
-use Rattle.cb_marks.specs.Search.{Joined, IsTable, HasStarts}
-use Rattle.cb_marks.proofs.Lists.{none_in, replicated, at_place}
+use Rattle.cb_marking.specs.declared.links.Links.{Links}
+use Rattle.cb_marking.specs.Marks.{IsWithin}
+use Rattle.cb_marking.specs.Search.{Joined, IsTable, HasStarts}
+use Rattle.cb_marking.proofs.Lists.{none_in, replicated, at_place}
 
 -- the rows are those of a relation
 pub record HasRows (R : ℕ → ℕ → Type 0) (table : List (List ℕ)) : Type 0 where

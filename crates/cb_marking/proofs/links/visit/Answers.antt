@@ -1,7 +1,7 @@
 use Rattle.std.proofs.Common.{◌≡◌, List, Bool, false, get_or, sym, ◌∙◌, ap}
 use Rattle.std.proofs.lemmas.Result.{on_ok_weaker}
-use Rattle.cb_marks.proofs.Seen.{Visited-now}
-use Rattle.cb_marks.proofs.visit.Goals as goal
+use Rattle.cb_marking.proofs.Seen.{Visited-now}
+use Rattle.cb_marking.proofs.links.visit.Goals as goal
 
 pub returns : goal.returns
 returns c =

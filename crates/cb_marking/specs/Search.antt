@@ -2,8 +2,8 @@
 use Rattle.std.specs.Prelude.{◌≡◌, ℕ, ◌+◌, ◌⊎◌, Bool, true, false, if◌then◌else◌, List, [], ◌∷◌, Contains, length, get_or, Option, Some, None}
 use Rattle.cb_model.specs.declared.Sort.{Sort}
 use Rattle.cb_model.specs.declared.Sort.TheVariants as sort
-use Rattle.cb_marks.specs.declared.Links.{Links}
-use Rattle.cb_marks.specs.Marks.{HasSort}
+use Rattle.cb_marking.specs.declared.links.Links.{Links}
+use Rattle.cb_marking.specs.Marks.{HasSort}
 
 -- two things are linked
 abbrev pub Joined : List (ℕ × ℕ) → ℕ → ℕ → Type 0

@@ -1,7 +1,7 @@
 use Rattle.std.proofs.Common.{sym}
 use Rattle.cb_model.specs.declared.Sort.TheVariants as sort
-use Rattle.cb_marks.proofs.One.{one_found, tells, sorted_more}
-use Rattle.cb_marks.proofs.Links.sorts.Goals as goal
+use Rattle.cb_marking.proofs.One.{one_found, tells, sorted_more}
+use Rattle.cb_marking.proofs.links.Links.sorts.Goals as goal
 
 pub loop-thing-preserved : goal.loop-thing-preserved
 loop-thing-preserved c =

@@ -1,9 +1,9 @@
 use Rattle.std.proofs.Common.{List, ℕ, [], ◌∷◌, take, get_or, sym, subst, arith}
 use Rattle.std.proofs.lemmas.List.{take_more}
 use Rattle.std.proofs.lemmas.List.Elements.{Contains-get_or}
-use Rattle.cb_marks.specs.Search.{Visited}
-use Rattle.cb_marks.proofs.Seen.{Visited-append}
-use Rattle.cb_marks.proofs.visit_all.Goals as goal
+use Rattle.cb_marking.specs.Search.{Visited}
+use Rattle.cb_marking.proofs.Seen.{Visited-append}
+use Rattle.cb_marking.proofs.links.visit_all.Goals as goal
 
 pub visit-requires : goal.visit-requires
 visit-requires c =

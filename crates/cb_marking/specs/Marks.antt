@@ -2,9 +2,9 @@
 use Rattle.std.specs.Prelude.{◌≡◌, ◌≢◌, ℕ, ◌<◌, ◌⊎◌, List, Contains, length, get_or}
 use Rattle.cb_model.specs.declared.Sort.{Sort}
 use Rattle.cb_model.specs.declared.Sort.TheVariants as sort
-use Rattle.cb_marks.specs.declared.Links.{Links}
-use Rattle.cb_marks.specs.declared.Stop.{Stop}
-use Rattle.cb_marks.specs.declared.Stop.TheVariants as stop
+use Rattle.cb_marking.specs.declared.links.Links.{Links}
+use Rattle.cb_marking.specs.declared.links.Stop.{Stop}
+use Rattle.cb_marking.specs.declared.links.Stop.TheVariants as stop
 
 -- a thing has the sorts that it is given, and those of the things that it is linked with
 pub data HasSort (m : Links) : ℕ → Sort → Type 0 where

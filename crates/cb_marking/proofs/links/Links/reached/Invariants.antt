@@ -1,7 +1,7 @@
 use Rattle.std.proofs.Common.{◌+◌, length}
-use Rattle.cb_marks.specs.Search.{unseen}
-use Rattle.cb_marks.proofs.Reach.{Reaching}
-use Rattle.cb_marks.proofs.Links.reached.Given as goal
+use Rattle.cb_marking.specs.Search.{unseen}
+use Rattle.cb_marking.proofs.Reach.{Reaching}
+use Rattle.cb_marking.proofs.links.Links.reached.Given as goal
 
 abbrev pub invariant-loop-thing : goal.invariant-loop-thing
 invariant-loop-thing l = Reaching l.self l.fn.sort (length l.table) l.seen l.waiting

@@ -5,10 +5,10 @@ use Rattle.std.proofs.lemmas.List.{get_or_append_left, get_or_push}
 use Rattle.std.proofs.lemmas.Bool.{false≢true, cases_lt}
 use Rattle.cb_model.specs.declared.Sort.{Sort}
 use Rattle.cb_model.specs.declared.Sort.TheVariants as sort
-use Rattle.cb_marks.specs.declared.Links.{Links}
-use Rattle.cb_marks.specs.declared.Stop.TheVariants as stop
-use Rattle.cb_marks.specs.Marks.{HasSort, HasOneSort, AreSorts, Stops}
-use Rattle.cb_marks.specs.Search.{Reaches, one_of}
+use Rattle.cb_marking.specs.declared.links.Links.{Links}
+use Rattle.cb_marking.specs.declared.links.Stop.TheVariants as stop
+use Rattle.cb_marking.specs.Marks.{HasSort, HasOneSort, AreSorts, Stops}
+use Rattle.cb_marking.specs.Search.{Reaches, one_of}
 
 module _ (m : Links) (x : ℕ) where
   -- a mark tells whether the thing has the sort
