@@ -1,0 +1,5 @@
+pub mod Back
+pub mod Cells
+pub mod Lent
+pub mod Slots
+mod Inside

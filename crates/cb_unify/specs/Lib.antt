@@ -1,0 +1,5 @@
+pub mod State
+pub mod Moments
+pub mod Growth
+pub mod Lending
+pub mod Laws
