@@ -134,7 +134,9 @@ fn add_rule<'s>(
     ensures { (ms : List (Option Text)) → AreNumbers ms given.now.modules.now → MatchResult result (λ _. AddsRule given.now.declared.now given.now.heads.now given.now.names.now ms (form_of head.now) (map goal_form body.now) all.old all.new) (RefusesBody given.now.declared.now given.now.heads.now ms (body_of (form_of head.now) (map goal_form body.now)) line) }
 {
     let marking = checked(alloc, given, line, head, body)?;
-    let Ok(clause) = clause(alloc, given, &marking, head, body) else {
+    let made = clause(alloc, given, &marking, head, body);
+    drop(marking);
+    let Ok(clause) = made else {
         return Err(LoadError::Memory);
     };
     let Ok(()) = all.push(clause) else {

@@ -1,7 +1,7 @@
 -- Arguments at their places.
 use Rattle.std.specs.Prelude.{IfOk, unwrap_or}
 use Rattle.std.specs.Bool.{if◌then◌else◌}
-use Rattle.std.proofs.Common.{◌≡◌, ℕ, zero, suc, ◌+◌, ◌<◌, ◌≤◌, Bool, true, false, List, [], ◌∷◌, ◌++◌, map, drop, length, get_or, Option, Some, None, Result, Ok, Err, slice_get, bytes_eq, codes, refl, sym, ◌∙◌, ap, subst, arith, add-one, drop-cons}
+use Rattle.std.proofs.Common.{◌≡◌, ℕ, zero, suc, ◌+◌, ◌<◌, ◌≤◌, Bool, true, false, List, [], ◌∷◌, ◌++◌, drop, length, get_or, Option, Some, None, Result, Ok, Err, slice_get, bytes_eq, codes, refl, sym, ◌∙◌, ap, arith, add-one}
 use Rattle.std.proofs.lemmas.List.{append-nil, append_assoc}
 use Rattle.cb_model.specs.Text.{Text}
 use Rattle.cb_model.specs.declared.RawTerm.{RawTerm}
@@ -12,10 +12,9 @@ use Rattle.cb_model.specs.declared.Tree.TheVariants as tree
 use Rattle.cb_model.specs.Grammar.{Form, Forms, Variable, Integer, Name, Closed, Open, Not, And, Xor, Or, Last, More}
 use Rattle.cb_model.specs.declared.Goal.{Goal}
 use Rattle.cb_model.specs.declared.Goal.TheVariants as goal
-use Rattle.cb_model.specs.Written.{is_name}
 use Rattle.cb_model.specs.Loading.{first_atom, module_number, circuit_goal, call_goal, head_sign}
 use Rattle.cb_known.specs.Modules.{number_of, AreNumbers}
-use Rattle.cb_model.specs.Forms.{form_of, forms_of}
+use Rattle.cb_model.specs.Forms.{form_of}
 use Rattle.cb_model.specs.Directives.{Declared, Sign, same_sign, nothing, sorts_of, count_of}
 use Rattle.cb_model.specs.Sorts.{own_name, apart, apart_all, Numbering, as_tree, as_trees, as_arguments, sign_number, circuit_sign}
 use Rattle.cb_directives.proofs.Reading.{count_forms, drop_past}
@@ -203,18 +202,3 @@ pub head_is : {E : Type 0} (q : Result ℕ E) (names : List Sign) (f : Form) (x 
     IfOk q (λ k. k ≡ sign_number names (head_sign f))
 head_is (Err e) names f x ts h k = tt
 head_is (Ok n) names f x ts h k = k ∙ ap (λ m. sign_number names (x, m)) (sym (count_forms ts)) ∙ sym (ap (λ (g : Form). sign_number names (head_sign g)) h)
-
-no_name : (f : Form) → is_name f ≡ false → head_sign f ≡ ([], 0)
-no_name (Variable x) h = refl
-no_name (Integer z) h = refl
-no_name (Name x fs) h = absurd (cc)
-no_name (Closed fs) h = refl
-no_name (Open fs f) h = refl
-no_name (Not f) h = refl
-no_name (And fs) h = refl
-no_name (Xor fs) h = refl
-no_name (Or fs) h = refl
-
-pub other_head : {E : Type 0} (q : Result ℕ E) (names : List Sign) (f : Form) (x : Text) → is_name f ≡ false → x ≡ [] → IfOk q (λ k. k ≡ sign_number names (x, 0)) → IfOk q (λ k. k ≡ sign_number names (head_sign f))
-other_head (Err e) names f x h s k = tt
-other_head (Ok n) names f x h s k = k ∙ ap (λ (y : Text). sign_number names (y, 0)) s ∙ ap (sign_number names) (sym (no_name f h))

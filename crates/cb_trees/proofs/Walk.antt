@@ -1,9 +1,9 @@
 -- Written terms, one after another, with each `_` a variable of its own.
-use Rattle.std.proofs.Common.{◌≡◌, ℕ, zero, suc, ◌+◌, ◌<◌, ◌≤◌, Bool, true, false, ◌&&◌, List, [], ◌∷◌, ◌++◌, map, drop, length, get_or, refl, sym, ◌∙◌, ap, subst, arith, add-one, drop-cons}
+use Rattle.std.proofs.Common.{◌≡◌, ℕ, suc, ◌+◌, ◌<◌, ◌≤◌, Bool, true, false, ◌&&◌, List, [], ◌∷◌, ◌++◌, map, drop, length, get_or, refl, sym, ◌∙◌, ap, add-one, drop-cons}
 use Rattle.std.proofs.lemmas.List.{append-nil, append_assoc}
 use Rattle.cb_model.specs.declared.RawTerm.{RawTerm}
 use Rattle.cb_model.specs.declared.Expr.{Expr}
-use Rattle.cb_model.specs.Grammar.{Form, Forms, Last, More}
+use Rattle.cb_model.specs.Grammar.{Forms, More}
 use Rattle.cb_model.specs.Forms.{form_of, forms_of}
 use Rattle.cb_model.specs.Written.{is_written, are_written}
 use Rattle.cb_model.specs.Sorts.{apart, apart_all, Numbering, as_expr, as_exprs}

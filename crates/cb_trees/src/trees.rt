@@ -4,7 +4,7 @@ ghost use Rattle.std.specs.Prelude.{◌≡◌, ◌++◌, [], true, map, IfOk, On
 ghost use Rattle.cb_model.specs.declared.Sort.TheVariants as sort;
 ghost use Rattle.cb_model.specs.declared.Tree.TheVariants as tree;
 ghost use Rattle.cb_model.specs.Grammar.{Name};
-ghost use Rattle.cb_model.specs.Written.{is_written, are_written};
+ghost use Rattle.cb_model.specs.Written.{is_name, is_written, are_written};
 ghost use Rattle.cb_model.specs.Forms.{form_of, forms_of};
 ghost use Rattle.cb_model.specs.Directives.{nothing, sorts_of};
 ghost use Rattle.cb_model.specs.Sorts.{apart, apart_all, as_tree, as_trees, as_arguments, sign_number};
@@ -168,7 +168,8 @@ pub fn arguments<'s>(
     head: &RawTerm<'s>,
     own: &mut usize,
 ) -> Result<Items<Tree>, AllocError>
-    requires { is_written (form_of head.now) ≡ true }
+    requires name { is_name (form_of head.now) ≡ true }
+    requires written { is_written (form_of head.now) ≡ true }
     ensures trees { IfOk result (λ ts. ts ≡ as_arguments numbers.now.declared.now (numbering_of numbers.now) (apart (form_of head.now) own.old).0) }
     ensures own { OnOk result (own.new ≡ (apart (form_of head.now) own.old).1) }
 {
@@ -177,19 +178,17 @@ pub fn arguments<'s>(
             let places = Places::of(numbers.declared, name, args.len());
             trees(alloc, numbers, &places, args, own)
         }
-        None => {
-            skip(head, own)?;
-            Ok(Items::new(alloc))
-        }
+        None => unreachable!(),
     }
 }
 
 /// The number of a head's name.
 pub fn head_number<'s>(numbers: &Numbers<'_, 's>, head: &RawTerm<'s>) -> Result<u32, AllocError>
+    requires { is_name (form_of head.now) ≡ true }
     ensures { IfOk result (λ k. k ≡ sign_number (numbers.now.names.now ++ numbers.now.more.now) (head_sign (form_of head.now))) }
 {
     match named(head) {
         Some((name, args)) => numbers.sign(name, args.len()),
-        None => numbers.sign(b"", 0),
+        None => unreachable!(),
     }
 }

@@ -1,8 +1,4 @@
-use Rattle.std.specs.Prelude.{IfOk}
-use Rattle.std.proofs.Common.{◌≡◌, List, Option, Result, Ok, Err}
 use Rattle.std.proofs.lemmas.Result.{IfOk-weaker}
-use Rattle.cb_model.specs.Text.{Text}
-use Rattle.cb_known.specs.Modules.{AreNumbers}
 use Rattle.cb_trees.specs.Numbered.{numbering_of}
 use Rattle.cb_trees.specs.Places.{sorts_given}
 use Rattle.cb_trees.proofs.InPlaces.{calls_circuit, calls_name}
