@@ -5,3 +5,7 @@ pub mod Nets
 pub mod Operands
 pub mod Unequal
 pub mod Verdicts
+pub mod Evaluates
+pub mod Bridge
+pub mod Rows
+pub mod Deciding

@@ -1,2 +1,5 @@
 pub mod Nodes
 pub mod Verdict
+pub mod Order
+pub mod Least
+pub mod Wanted

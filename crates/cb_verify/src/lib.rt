@@ -22,9 +22,14 @@ use sqlite_items::Items;
 use std::alloc::Global;
 
 mod circuits;
+mod comparison;
 mod differences;
 mod expressions;
+mod least;
+mod ordered;
 mod nodes;
+mod sequence;
+mod unfolding;
 
 /// The verdict of a comparison.
 #[derive(Debug, Drop)]
