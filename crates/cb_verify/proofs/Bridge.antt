@@ -1,6 +1,6 @@
 -- A flattened module that carries bits can be evaluated in an order of its gates.
-use Rattle.std.proofs.Common.{◌≡◌, ◌≢◌, ◌⊎◌, inl, inr, ℕ, zero, suc, ◌+◌, ◌-◌, ◌*◌, ◌<◌, ◌≤◌, ◌^◌, Bool, true, false, nat_lt, List, [], ◌∷◌, ◌++◌, map, length, get_or, slice_get, slice_index_or, sum_by, replicate, nat_eq, if◌then◌else◌, Some, Contains, refl, sym, ◌∙◌, ap, subst, arith}
-use Rattle.std.proofs.lemmas.Bool.{cases_eq, cases_lt, eq-eqb, ne_eqb, lt-ltb, le-ltb}
+use Rattle.std.proofs.Common.{◌≡◌, ◌≢◌, inl, inr, ℕ, zero, suc, ◌+◌, ◌-◌, ◌*◌, ◌<◌, ◌≤◌, ◌^◌, Bool, true, false, List, [], ◌∷◌, ◌++◌, map, length, get_or, slice_get, sum_by, replicate, nat_eq, if◌then◌else◌, Some, Contains, refl, sym, ◌∙◌, ap, subst, arith}
+use Rattle.std.proofs.lemmas.Bool.{cases_lt, eq-eqb, ne_eqb, lt-ltb, le-ltb}
 use Rattle.std.proofs.lemmas.List.{length-map, length-replicate, get_or_past}
 use Rattle.std.proofs.lemmas.List.Sums.{sum_by-cons}
 use Rattle.std.proofs.lemmas.List.Elements.{Contains-append_left, Contains-push}
@@ -17,14 +17,14 @@ use Rattle.cb_verify.specs.Nodes.{AreNodes, node_at, node_bits, DependOn, Adds}
 use Rattle.cb_verify.proofs.Nets.{chosen, reads}
 use Rattle.cb_model.specs.Circuits.{Consistent, Outputs, read_all, pins_of, Net, In, Own, Flat, net_number, gates_from, circuit_of}
 use Rattle.cb_model.specs.Room.{circuit_pins}
-use Rattle.cb_model.specs.Carry.{Carries, input, gate, AllCarry, none, more, IsCarrying, NetIn}
+use Rattle.cb_model.specs.Carry.{Carries, input, gate, AllCarry, more, IsCarrying, NetIn}
 use Rattle.cb_model.specs.Sound.{HasOneValuation}
 use Rattle.cb_model.specs.Order as graph
 use Rattle.cb_order.proofs.Orders.{cons-cases, cons-later, cons-here, nothing}
 use Rattle.cb_flat.specs.Acyclic.{own_of, gate_graph}
 use Rattle.cb_flat.proofs.Carry.{total_has_one}
 use Rattle.cb_flat.proofs.Acyclic.{carrying_is_acyclic}
-use Rattle.cb_verify.specs.Order.{IsFlattened, own_net, own_nets, gate_needs, IsKnown, no_gate, InSequence, CanEvaluate, pins_in}
+use Rattle.cb_verify.specs.Order.{IsFlattened, own_nets, gate_needs, IsKnown, no_gate, InSequence, CanEvaluate, pins_in}
 use Rattle.cb_verify.proofs.Chains.{Each-at}
 
 -- the gates by number
@@ -85,11 +85,12 @@ module _ (f : Flat) (carry : IsCarrying f) (kinds : Each (λ g. pins_of g.kind (
       let long = graph-long f.gates in
       let l : k < length f.gates = (let w = s.0.within in omega (arith, w, long)) in
       let g = the-gate k l in
-      let z = gates-long f.inputs f.inputs f.gates in
-      ((let q : k < length (gates_from f.inputs f.inputs f.gates) = omega (arith, l, z) in q),
+      let z = gates-long f.inputs f.inputs f.gates in (
+        (let q : k < length (gates_from f.inputs f.inputs f.gates) = omega (arith, l, z) in q),
         subst (λ (y : Gate). Each (IsKnown (circuit_of f) done) y.ins) (sym (gates-get f.inputs f.inputs f.gates k g.0 g.1))
             (pins-of-gate done k g.0 g.1 (λ h w. s.0.needs h (subst (λ ns. Contains ns h) (sym (graph-get f.gates k g.0 g.1)) w))),
-        sequence (done ++ k ∷ []) ks s.2)
+        sequence (done ++ k ∷ []) ks s.2,
+      )
 
   pub carrying-evaluates : (order : List ℕ) → graph.IsOrder (gate_graph f) order → CanEvaluate (circuit_of f) order
   carrying-evaluates order o = record {

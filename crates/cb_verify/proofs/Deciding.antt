@@ -1,16 +1,16 @@
 -- From the nodes of a circuit and of what is wanted to the verdict.
-use Rattle.std.proofs.Common.{◌≡◌, ℕ, ◌+◌, ◌-◌, ◌*◌, ◌^◌, ◌<◌, ◌≤◌, Bool, true, false, List, [], map, length, get_or, sym, ◌∙◌, ap, subst, arith}
+use Rattle.std.proofs.Common.{◌≡◌, ℕ, ◌+◌, ◌*◌, ◌^◌, ◌<◌, ◌≤◌, Bool, false, List, [], length, get_or, sym, ◌∙◌, ap, subst, arith}
 use Rattle.std.proofs.lemmas.List.{length-map}
 use Rattle.std.proofs.Math.Nat.{mul-le-mul_right}
 use Rattle.cb_model.specs.declared.Circuit.{Circuit}
-use Rattle.cb_model.specs.Bits.{Bits, bits_of, numbers, first_bits, weight}
+use Rattle.cb_model.specs.Bits.{Bits, bits_of, numbers, first_bits}
 use Rattle.cb_model.specs.Values.{expr_value}
-use Rattle.cb_model.specs.Circuits.{Flat, Outputs, read_all, spec_values}
+use Rattle.cb_model.specs.Circuits.{Flat, Outputs, read_all}
 use Rattle.cb_model.specs.Room.{room_v}
 use Rattle.cb_dd.specs.declared.Node.{Node}
 use Rattle.cb_dd.specs.declared.Triple.{Triple}
 use Rattle.cb_dd.specs.Diagram.{Store, function_of}
-use Rattle.cb_ops.specs.Ops.{Grows, Agree}
+use Rattle.cb_ops.specs.Ops.{Grows}
 use Rattle.cb_verify.specs.declared.Verdict.{Verdict}
 use Rattle.cb_verify.specs.declared.Verdict.TheVariants as verdict
 use Rattle.cb_verify.specs.declared.comparison.Wanted.{Wanted}
@@ -18,7 +18,7 @@ use Rattle.cb_verify.specs.declared.comparison.Wanted.TheVariants as wanted
 use Rattle.cb_verify.specs.Nodes.{AreNodes, node_bits, DependOn, Adds, unequal}
 use Rattle.cb_verify.specs.Order.{IsFlattened}
 use Rattle.cb_verify.specs.Verdict.{IsRight, IsLeast}
-use Rattle.cb_verify.specs.Wanted.{Wants, FitsInputs, outputs_of, size_of}
+use Rattle.cb_verify.specs.Wanted.{Wants, FitsInputs, outputs_of}
 use Rattle.cb_verify.proofs.Kept.{AreNodes-kept, DependOn-kept, node_bits-kept, node_bits-agree}
 use Rattle.cb_verify.proofs.Assignments.{first_bits-bits_of, first_bits-agree, length-first_bits, length-numbers}
 use Rattle.cb_verify.proofs.Nets.{depend-by}

@@ -1,10 +1,10 @@
 -- The nodes of a circuit's nets, gate by gate in an order.
-use Rattle.std.proofs.Common.{◌≡◌, ◌≢◌, ◌⊎◌, inl, inr, ℕ, zero, suc, ◌+◌, ◌*◌, ◌^◌, ◌<◌, ◌≤◌, Bool, true, false, List, [], ◌∷◌, ◌++◌, map, length, get_or, take, sum_by, replicate, ◌-◌, slice_set, Contains, refl, sym, ◌∙◌, ap, subst, arith, append-nil, append_assoc, length-append}
+use Rattle.std.proofs.Common.{◌≡◌, ◌≢◌, inl, inr, ℕ, zero, suc, ◌+◌, ◌*◌, ◌^◌, ◌<◌, ◌≤◌, Bool, false, List, [], ◌∷◌, ◌++◌, map, length, get_or, take, replicate, ◌-◌, slice_set, Contains, refl, sym, ◌∙◌, ap, subst, arith, append-nil, append_assoc, length-append}
 use Rattle.std.proofs.lemmas.Bool.{cases_eq, cases_lt}
 use Rattle.std.proofs.lemmas.List.Sums.{sum_by_push, sum_by-take-le}
 use Rattle.std.proofs.Math.Nat.{mul-le-mul_right}
 use Rattle.std.proofs.lemmas.List.{same_lists, get_or_default, get_or-map, get_or-take, get_or_append_left, take_more, take_all, length-replicate, length-map, length-set, get_or-set_same, get_or-set_other}
-use Rattle.std.proofs.lemmas.List.Elements.{Contains-append_left, Contains-push, Contains-push_cases}
+use Rattle.std.proofs.lemmas.List.Elements.{Contains-push_cases}
 use Rattle.cb_model.specs.declared.Gate.{Gate}
 use Rattle.cb_model.specs.declared.Circuit.{Circuit}
 use Rattle.cb_model.specs.Bits.{Bits, Each}
@@ -12,7 +12,7 @@ use Rattle.cb_model.specs.Circuits.{gate_value, read_all, GateHolds, Consistent}
 use Rattle.cb_dd.specs.declared.Node.{Node}
 use Rattle.cb_dd.specs.declared.Triple.{Triple}
 use Rattle.cb_dd.specs.Diagram.{Store, IsNode, function_of}
-use Rattle.cb_ops.specs.Ops.{Grows, Agree, DependsOn}
+use Rattle.cb_ops.specs.Ops.{Grows}
 use Rattle.cb_verify.specs.Nodes.{AreNodes, node_at, node_bits, DependOn, Adds}
 use Rattle.cb_verify.specs.Order.{IsKnown, no_gate, InSequence, CanEvaluate, pins_in}
 use Rattle.cb_verify.proofs.Kept.{function-kept, node_bits-agree}
@@ -66,6 +66,7 @@ module _ (c : Circuit) (inputs : List Node) where
       where
         the_zero : Node
         the_zero = record { 0 = 0 }
+
         bit : (a : Bits) (v : List Bool) → Consistent c (node_bits before inputs a) v → (n : ℕ) → IsKnown c [] n → function_of before (node_at (inputs ++ replicate (length c.gates) (record { 0 = 0 })) n).0 a ≡ get_or v n false
         bit a v k n (inl l) =
             let w : n < length inputs = omega (arith, l, as_many) in
@@ -99,13 +100,15 @@ module _ (c : Circuit) (inputs : List Node) where
       -- a known net depends on the levels of the inputs
       known-depends : (ls : List ℕ) → DependOn before inputs ls → (ns : List ℕ) → Each (IsKnown c (take i order)) ns → DependOn s.triples (map (node_at nodes) ns) ls
       known-depends ls d [] w = tt
-      known-depends ls d (n ∷ ns) w =
-          (record {
-            agrees = λ a b h.
-                let same : node_bits before inputs a ≡ node_bits before inputs b = node_bits-agree before inputs ls a b d h in
-                let o = can.one (node_bits before inputs a) (length-map inputs (λ m. function_of before m.0 a) ∙ as_many) in
-                e.bits a o.v o.consistent n w.0 ∙ sym (e.bits b o.v (subst (λ x. Consistent c x o.v) same o.consistent) n w.0);
-          }, known-depends ls d ns w.1)
+      known-depends ls d (n ∷ ns) w = (
+        record {
+          agrees = λ a b h.
+              let same : node_bits before inputs a ≡ node_bits before inputs b = node_bits-agree before inputs ls a b d h in
+              let o = can.one (node_bits before inputs a) (length-map inputs (λ m. function_of before m.0 a) ∙ as_many) in
+              e.bits a o.v o.consistent n w.0 ∙ sym (e.bits b o.v (subst (λ x. Consistent c x o.v) same o.consistent) n w.0);
+        },
+        known-depends ls d ns w.1,
+      )
 
       pub evaluates-room-of : (t : Store) → Adds s t (length g.ins) (map (node_at nodes) g.ins) → (old : ℕ) → (ls : List ℕ) → DependOn before inputs ls → length s.triples ≤ old + pins_in c (take i order) * (2 * 2 ^ length ls) → length t.triples ≤ old + pins_in c (take (i + 1) order) * (2 * 2 ^ length ls)
       evaluates-room-of t more old ls d room =
@@ -151,6 +154,7 @@ module _ (c : Circuit) (inputs : List Node) where
       where
         long : length (node_bits ts nodes a) ≡ length v
         long = length-map nodes (λ m. function_of ts m.0 a) ∙ e.long ∙ sym h.every_net
+
         known : (n : ℕ) → n < length nodes → IsKnown c (take i order) n
         known n w = elim (cases_lt n c.inputs) [
           | inl lt ↦ inl lt

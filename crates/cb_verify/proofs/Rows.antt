@@ -9,13 +9,12 @@ use Rattle.cb_dd.specs.declared.Node.{Node}
 use Rattle.cb_dd.specs.declared.Triple.{Triple}
 use Rattle.cb_dd.specs.Diagram.{Store, IsNode, function_of}
 use Rattle.cb_ops.specs.Ops.{Grows, DependsOn, Room}
-use Rattle.cb_verify.specs.declared.Verdict.{Verdict}
 use Rattle.cb_verify.specs.declared.Verdict.TheVariants as verdict
 use Rattle.cb_verify.specs.Nodes.{AreNodes, node_bits, DependOn, unequal, IsFirst}
 use Rattle.cb_verify.specs.Least.{row_of, lesser_of, LeastOf}
 use Rattle.cb_verify.specs.Verdict.{IsLeast}
 use Rattle.cb_verify.proofs.Assignments.{first_bits-bits_of, length-numbers}
-use Rattle.cb_verify.proofs.Kept.{node-kept, function-kept, depends-kept, depends-two, node_bits-kept, AreNodes-kept, two-room}
+use Rattle.cb_verify.proofs.Kept.{node-kept, function-kept, depends-kept, depends-two, node_bits-kept, two-room}
 use Rattle.cb_verify.proofs.Chains.{Each-at}
 
 -- ---- rows by weight

@@ -26,8 +26,8 @@ mod comparison;
 mod differences;
 mod expressions;
 mod least;
-mod ordered;
 mod nodes;
+mod ordered;
 mod sequence;
 mod unfolding;
 

@@ -1,4 +1,4 @@
-use Rattle.std.proofs.Common.{sym, arith}
+use Rattle.std.proofs.Common.{arith}
 use Rattle.cb_ops.proofs.Ite.{Grows-then}
 use Rattle.cb_verify.specs.Least.{row_of}
 use Rattle.cb_verify.proofs.Rows.{place-room, place-within, place-depends, place-more, all-places}

@@ -1,8 +1,7 @@
-use Rattle.std.proofs.Common.{◌≡◌, ◌∙◌, ◌+◌, ◌*◌, ◌^◌, ◌≤◌, ℕ, Bool, List, length, Some, None, ap, sym, subst, arith}
-use Rattle.cb_model.specs.Bits.{Bits}
+use Rattle.std.proofs.Common.{◌∙◌, length, ap, subst}
 use Rattle.cb_verify.specs.Nodes.{node_bits, unequal}
 use Rattle.cb_verify.specs.Least.{LeastOf, row_of}
-use Rattle.cb_verify.proofs.Assignments.{numbers-rise, length-numbers}
+use Rattle.cb_verify.proofs.Assignments.{numbers-rise}
 use Rattle.cb_verify.proofs.Kept.{AreNodes-kept}
 use Rattle.cb_verify.proofs.Rows.{verified, row-differs, least-is, at-numbers}
 use Rattle.cb_verify.proofs.least.verdict.Goals as goal

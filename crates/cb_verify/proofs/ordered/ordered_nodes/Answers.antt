@@ -1,14 +1,14 @@
-use Rattle.std.proofs.Common.{◌≡◌, ℕ, ◌<◌, ◌≤◌, ◌+◌, ◌*◌, ◌^◌, [], ◌++◌, Bool, true, List, map, length, take, replicate, slice_index_or, get_or, vec_len, refl, sym, ◌∙◌, ap, subst, arith}
+use Rattle.std.proofs.Common.{◌≡◌, ℕ, ◌<◌, ◌+◌, ◌*◌, ◌^◌, ◌++◌, true, map, length, replicate, slice_index_or, get_or, sym, ◌∙◌, ap, subst, arith}
 use Rattle.std.proofs.lemmas.List.{get_or_default}
 use Rattle.cb_model.specs.declared.Gate.{Gate}
 use Rattle.cb_model.specs.Bits.{Bits, Each}
 use Rattle.cb_model.specs.Circuits.{pins_of, gate_value}
 use Rattle.cb_dd.specs.Diagram.{IsNode, function_of}
 use Rattle.cb_ops.proofs.Ite.{Grows-then, Grows-same}
-use Rattle.cb_verify.specs.Nodes.{AreNodes, Adds, node_at, node_bits}
-use Rattle.cb_verify.specs.Order.{no_gate, pins_in}
+use Rattle.cb_verify.specs.Nodes.{Adds, node_at, node_bits}
+use Rattle.cb_verify.specs.Order.{no_gate}
 use Rattle.cb_verify.proofs.Kept.{AreNodes-kept}
-use Rattle.cb_verify.proofs.Evaluates.{Evaluates, evaluates-start, gate-in, pins-within, net-within, evaluates-more, evaluates-room-of, evaluates-end, order-room, each-set, each-append, zero-node}
+use Rattle.cb_verify.proofs.Evaluates.{evaluates-start, gate-in, pins-within, net-within, evaluates-more, evaluates-room-of, evaluates-end, order-room, each-set, each-append, zero-node}
 use Rattle.cb_verify.proofs.ordered.ordered_nodes.Goals as goal
 
 pub loop-k-init : goal.loop-k-init

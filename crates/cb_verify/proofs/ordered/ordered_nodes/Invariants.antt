@@ -1,4 +1,4 @@
-use Rattle.std.proofs.Common.{◌≡◌, ◌+◌, ◌*◌, ◌^◌, ◌≤◌, ℕ, Bool, List, length, take}
+use Rattle.std.proofs.Common.{◌+◌, ◌*◌, ◌^◌, ◌≤◌, ℕ, List, length, take}
 use Rattle.cb_verify.specs.Nodes.{AreNodes, DependOn}
 use Rattle.cb_verify.specs.Order.{pins_in}
 use Rattle.cb_ops.specs.Ops.{Grows}

@@ -1,4 +1,4 @@
-use Rattle.std.proofs.Common.{◌≡◌, ◌≤◌, ◌^◌, ◌∙◌, ℕ, List, length, Option, Vec, Global, MatchOption, sym, subst, arith}
+use Rattle.std.proofs.Common.{◌≤◌, ◌^◌, ℕ, List, length, Option, Vec, Global, MatchOption, sym, subst, arith}
 use Rattle.cb_model.specs.Order as graph
 use Rattle.cb_verify.specs.Order.{gate_needs}
 use Rattle.cb_verify.proofs.Bridge.{circuit-graph, circuit-small, circuit-fits, circuit-acyclic, circuit-evaluates, circuit-order-pins}

@@ -1,7 +1,4 @@
-use Rattle.std.proofs.Common.{length}
-use Rattle.cb_model.specs.Room.{circuit_pins}
-use Rattle.cb_verify.specs.Order.{pins_in}
-use Rattle.cb_verify.proofs.Bridge.{outputs-in, outputs-are, outputs-have, pins-room}
+use Rattle.cb_verify.proofs.Bridge.{outputs-in, outputs-are, outputs-have}
 use Rattle.cb_verify.proofs.unfolding.unfold_circuit.Goals as goal
 
 pub nodes_at-requires : goal.nodes_at-requires
