@@ -1,15 +1,10 @@
 -- The laws behind `compose`.
-use Rattle.std.proofs.Common.{◌≡◌, ℕ, ◌+◌, ◌*◌, ◌<◌, ◌≤◌, ◌^◌, Bool, true, false, List, [], ◌∷◌, ◌++◌, length, Option, Some, None, nat_eq, if◌then◌else◌, refl, sym, ap, subst, ◌∙◌, inl, inr, arith}
-use Rattle.std.proofs.lemmas.Bool.{cases_eq, cases_Bool, eq-eqb, ne_eqb}
-use Rattle.std.specs.Option.{option_map_or}
-use Rattle.cb_model.specs.Bits.{Bits, put}
+use Rattle.std.proofs.Common.{◌≡◌, ℕ, ◌<◌, Bool, true, false, List, [], ◌∷◌, length, if◌then◌else◌, refl, subst, ◌∙◌, arith}
+use Rattle.cb_model.specs.Bits.{put}
 use Rattle.cb_model.specs.Outside.{Rose}
-use Rattle.cb_dd.specs.declared.Triple.{Triple}
-use Rattle.cb_dd.specs.declared.Node.{Node}
 use Rattle.cb_dd.specs.Diagram.{Store, IsNode, function_of}
-use Rattle.cb_ops.specs.Ops.{StandsFor, IsIte, IsFree, DependAll, Room, HasCause, Grows}
-use Rattle.cb_ops.specs.Substitute.{Images, image_of, substituted}
-use Rattle.cb_ops.proofs.Ite.{choose-all, put-same, put-other, grown-node, grown-function, grown-depends}
+use Rattle.cb_ops.specs.Ops.{StandsFor, IsIte, Room, HasCause, Grows}
+use Rattle.cb_ops.proofs.Ite.{choose-all, grown-node, grown-function, grown-depends}
 use Rattle.cb_ops.proofs.Connectives.{room-of}
 use Rattle.cb_ops.proofs.Restrict.{restricted-depends, two-rooms}
 use Rattle.cb_ops.proofs.Joins.{room-three}
@@ -51,47 +46,6 @@ module _ (s t u v : Store) (st : Grows s t) (tu : Grows t u) (f level low high g
           let o = third.most ls (dg, (restricted-depends t u f high level true ls is_high df, (grown-depends t u tu low ls wl (restricted-depends s t f low level false ls is_low d.0), tt))) in
           omega (arith, m, n, o);
     }
-
--- one more level, whose bit no image before it reads: its node is put in after the others
-pub replaced-last : (ts : List Triple) (list : Images) (l : ℕ) (g : Node) → image_of list l ≡ None → ((k : ℕ) (m : Node) → image_of list k ≡ Some m → IsFree ts m.0 l)
-    → (a : Bits) → substituted ts list (put l (function_of ts g.0 a) a) ≡ substituted ts (list ++ (l, g) ∷ []) a
-replaced-last ts list l g none free a = λ i k. at k i
-  where
-    values : Option Node → Bits → ℕ → Bool
-    values o b k = option_map_or (λ n. function_of ts n.0 b) o (b k)
-
-    here : (o : Option Node) (k : ℕ) → image_of list k ≡ o → values (image_of list k) (put l (function_of ts g.0 a) a) k ≡ values (image_of (list ++ (l, g) ∷ []) k) a k
-    here (Some m) k e =
-        ap (λ o. values o (put l (function_of ts g.0 a) a) k) e
-        ∙ free k m e a (function_of ts g.0 a)
-        ∙ sym (ap (λ o. values o a k) (image-first list k m e))
-      where
-        image-first : (xs : Images) (k : ℕ) (m : Node) → image_of xs k ≡ Some m → image_of (xs ++ (l, g) ∷ []) k ≡ Some m
-        image-first [] k m e = absurd (let d : None ≡ Some m = e in cc)
-        image-first (p ∷ ps) k m e = elim (cases_Bool (nat_eq k p.0)) [
-          | inl same ↦ ap (λ c. if c then Some p.1 else image_of (ps ++ (l, g) ∷ []) k) same ∙ sym (ap (λ c. if c then Some p.1 else image_of ps k) same) ∙ e
-          | inr other ↦ ap (λ c. if c then Some p.1 else image_of (ps ++ (l, g) ∷ []) k) other ∙ image-first ps k m (sym (ap (λ c. if c then Some p.1 else image_of ps k) other) ∙ e)
-        ]
-    here None k e = elim (cases_eq k l) [
-      | inl same ↦
-          ap (λ o. values o (put l (function_of ts g.0 a) a) k) e
-          ∙ put-same a l k (function_of ts g.0 a) same
-          ∙ sym (ap (λ o. values o a k) (image-last list k e ∙ ap (λ c. if c then Some g else None) (eq-eqb k l same)))
-      | inr other ↦
-          ap (λ o. values o (put l (function_of ts g.0 a) a) k) e
-          ∙ put-other a l (function_of ts g.0 a) k other
-          ∙ sym (ap (λ o. values o a k) (image-last list k e ∙ ap (λ c. if c then Some g else None) (ne_eqb k l other)))
-    ]
-      where
-        image-last : (xs : Images) (k : ℕ) → image_of xs k ≡ None → image_of (xs ++ (l, g) ∷ []) k ≡ (if nat_eq k l then Some g else None)
-        image-last [] k e = refl
-        image-last (p ∷ ps) k e = elim (cases_Bool (nat_eq k p.0)) [
-          | inl same ↦ absurd (let d : None ≡ Some p.1 = sym e ∙ ap (λ c. if c then Some p.1 else image_of ps k) same in cc)
-          | inr other ↦ ap (λ c. if c then Some p.1 else image_of (ps ++ (l, g) ∷ []) k) other ∙ image-last ps k (sym (ap (λ c. if c then Some p.1 else image_of ps k) other) ∙ e)
-        ]
-
-    at : (k : ℕ) → substituted ts list (put l (function_of ts g.0 a) a) k ≡ substituted ts (list ++ (l, g) ∷ []) a k
-    at k = here (image_of list k) k refl
 
 -- a stop of the second part of a call is one of the whole
 pub composed-cause : (ns ms : List ℕ) (times other : ℕ) (s t v : Store) → Room ns times s v → t.fulls ≡ s.fulls → v.budget ≡ s.budget → length v.triples ≡ v.budget → 0 < times → HasCause ms other t v → HasCause ns times s v

@@ -12,7 +12,7 @@ use Rattle.cb_dd.specs.declared.Triple.{Triple}
 use Rattle.cb_dd.specs.Diagram.{IsNode, IsDiagram, HasParts, function_of, level_of}
 use Rattle.cb_dd.proofs.Diagrams.{function_of-zero, function_of-one}
 use Rattle.cb_ops.specs.Ops.{Agree, DependsOn, IsFree}
-use Rattle.cb_ops.specs.Support.{IsListed, IsWithin, IsSideOf, HasSides, IsClosed, Adds}
+use Rattle.cb_ops.specs.Support.{IsListed, IsWithin, IsSideOf, IsClosed, Adds}
 use Rattle.cb_ops.proofs.Ite.{essential, choose-all}
 use Rattle.cb_ops.proofs.Restrict.{put-swap}
 
@@ -29,7 +29,7 @@ listed-front (x ∷ xs) ys (suc j) h = listed-front xs ys j (omega arith)
 pub listed-at : (xs : List ℕ) (j n : ℕ) → slice_get xs j ≡ Some n → IsListed xs n
 listed-at xs j n at = list_any_at (nat_eq n) xs j n (slice_get_within xs j n at) (eq-eqb n _ (sym (get_or_from_slice_get xs j n n at)))
 
-listed-place : (xs : List ℕ) (n : ℕ) → IsListed xs n → (j : ℕ) × (slice_get xs j ≡ Some n)
+pub listed-place : (xs : List ℕ) (n : ℕ) → IsListed xs n → (j : ℕ) × (slice_get xs j ≡ Some n)
 listed-place xs n h =
     let c : Contains xs n = Contains-from_any (λ x y e. eqb-true x y e) n xs h in
     (c.0, slice_get-get_or xs c.0 n c.1 ∙ ap Some c.2)

@@ -58,7 +58,7 @@ agree-put k (l ∷ ls) a b x h = elim (cases_Bool (nat_eq l k)) [
       (put-other a k x l e ∙ h2.0 ∙ sym (put-other b k x l e), agree-put k ls a b x h2.1)
 ]
 
-agree-absent : (k : ℕ) (ls : List ℕ) (a : Bits) (x : Bool) → list_any (nat_eq k) ls ≡ false → Agree ls (put k x a) a
+pub agree-absent : (k : ℕ) (ls : List ℕ) (a : Bits) (x : Bool) → list_any (nat_eq k) ls ≡ false → Agree ls (put k x a) a
 agree-absent k [] a x h = tt
 agree-absent k (l ∷ ls) a x h = elim (cases_Bool (nat_eq k l)) [
   | inl same ↦ absurd (true≢false (sym (ap (λ c. c || list_any (nat_eq k) ls) same) ∙ h))

@@ -1,5 +1,5 @@
 -- The walk that joins the two sides of a level.
-use Rattle.std.proofs.Common.{◌≡◌, ℕ, ◌+◌, ◌*◌, ◌-◌, ◌<◌, ◌≤◌, ◌^◌, min, Bool, true, false, ◌&&◌, ◌||◌, List, [], ◌∷◌, length, if◌then◌else◌, Result, Ok, Err, IfOk, refl, sym, ap, subst, ◌∙◌, inl, inr, arith, rules}
+use Rattle.std.proofs.Common.{◌≡◌, ℕ, ◌+◌, ◌<◌, ◌≤◌, ◌^◌, Bool, true, false, List, [], ◌∷◌, length, if◌then◌else◌, Result, Err, refl, sym, ap, ◌∙◌, inl, inr, arith, rules}
 use Rattle.std.proofs.lemmas.Bool.{cases_Bool}
 use Rattle.std.proofs.lemmas.Nat.{pow_pos}
 use Rattle.cb_model.specs.Bits.{Bits, put}
@@ -9,12 +9,12 @@ use Rattle.cb_dd.specs.declared.Stop.{Stop}
 use Rattle.cb_dd.specs.declared.Stop.TheVariants.{Nodes, Memory}
 use Rattle.cb_dd.specs.Diagram.{Store, IsNode, IsDiagram, IsChild, HasParts, function_of, level_of}
 use Rattle.cb_dd.proofs.Diagrams.{function_of-put}
-use Rattle.cb_ops.specs.Ops.{DependsOn, Grows, StandsFor, IsCofactor, Room, HasCause}
+use Rattle.cb_ops.specs.Ops.{DependsOn, Grows, StandsFor, Room, HasCause}
 use Rattle.cb_ops.specs.declared.sides.Sides.{Sides}
 use Rattle.cb_ops.specs.declared.sides.Sides.TheVariants as how
 use Rattle.cb_ops.specs.declared.walk.Visit.{Visit}
 use Rattle.cb_ops.specs.declared.walk.Step.{Step}
-use Rattle.cb_ops.specs.Walk.{Walk, IsMade, IsMadeSide, IsVisit, joined, sides_of, fulls_after_step}
+use Rattle.cb_ops.specs.Walk.{IsMade, IsMadeSide, IsVisit, joined, sides_of, fulls_after_step}
 use Rattle.cb_ops.proofs.Ite.{put-id, put-other, grown-node, grown-function, cofactor-depends, listed, Grows-same}
 use Rattle.cb_ops.proofs.Restrict.{put-swap, above-of, agree-both}
 use Rattle.cb_ops.proofs.Walks.{Stays, IsDependence, asks}

@@ -1,11 +1,11 @@
 -- The memo of `xor` after one more answer, after more nodes, and after a cut.
-use Rattle.std.proofs.Common.{◌≡◌, ◌⊎◌, ℕ, ◌+◌, ◌<◌, ◌≤◌, Bool, true, false, cond, ◌&&◌, List, [], ◌++◌, length, take, drop, nat_eq, None, Some, refl, sym, ap, subst, ◌∙◌, inl, inr, arith}
+use Rattle.std.proofs.Common.{◌≡◌, ℕ, ◌+◌, ◌<◌, ◌≤◌, Bool, true, cond, List, [], ◌++◌, length, take, drop, nat_eq, None, Some, sym, ap, subst, ◌∙◌, inl, inr, arith}
 use Rattle.std.proofs.lemmas.Bool.{and_parts, eqb-true, cases_Bool}
 use Rattle.std.proofs.lemmas.Option.{same_Some}
 use Rattle.std.proofs.lemmas.List.{take-append-drop}
 use Rattle.indexmap.specs.IndexMap.{IndexMap, get}
 use Rattle.std.specs.Map.{lookup}
-use Rattle.cb_model.specs.Bits.{Bits, xor}
+use Rattle.cb_model.specs.Bits.{xor}
 use Rattle.cb_dd.specs.declared.Triple.{Triple}
 use Rattle.cb_dd.specs.Diagram.{function_of}
 use Rattle.cb_dd.proofs.Diagrams.{function_of-append}

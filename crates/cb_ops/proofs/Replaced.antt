@@ -1,20 +1,19 @@
 -- The walk that replaces levels by nodes.
-use Rattle.std.proofs.Common.{◌≡◌, ℕ, ◌+◌, ◌*◌, ◌-◌, ◌<◌, ◌≤◌, ◌^◌, min, Bool, true, false, List, [], ◌∷◌, length, nat_eq, None, Some, if◌then◌else◌, Result, Ok, Err, refl, sym, ap, subst, ◌∙◌, ◌⊎◌, inl, inr, arith, rules}
+use Rattle.std.proofs.Common.{◌≡◌, ℕ, ◌+◌, ◌*◌, ◌<◌, ◌≤◌, ◌^◌, Bool, true, false, List, [], ◌∷◌, length, nat_eq, None, if◌then◌else◌, Result, Err, refl, sym, ap, subst, ◌∙◌, ◌⊎◌, inl, inr, arith, rules}
 use Rattle.std.proofs.lemmas.Bool.{cases_Bool}
 use Rattle.std.proofs.lemmas.Nat.{pow_pos}
 use Rattle.std.specs.List.{list_any}
-use Rattle.indexmap.specs.IndexMap.{IndexMap, get}
-use Rattle.cb_model.specs.Bits.{Bits, put}
+use Rattle.indexmap.specs.IndexMap.{IndexMap}
+use Rattle.cb_model.specs.Bits.{Bits}
 use Rattle.cb_dd.specs.declared.Triple.{Triple}
 use Rattle.cb_dd.specs.declared.Node.{Node}
 use Rattle.cb_dd.specs.declared.Stop.{Stop}
 use Rattle.cb_dd.specs.declared.Stop.TheVariants.{Nodes, Memory}
 use Rattle.cb_dd.specs.Diagram.{Store, IsNode, IsDiagram, function_of, level_of}
-use Rattle.cb_ops.specs.Ops.{DependsOn, Grows, StandsFor, IsCofactor}
+use Rattle.cb_ops.specs.Ops.{DependsOn, Grows}
 use Rattle.cb_ops.specs.Support.{IsListed}
 use Rattle.cb_ops.specs.Substitute.{Images, image_of, substituted, AreNodes, Spreads, SubstituteRoom, SubstituteCause, AllSubstituted, IsJoined, JoinRoom}
 use Rattle.cb_ops.specs.declared.walk.Visit.{Visit}
-use Rattle.cb_ops.specs.declared.walk.Rest.{Rest}
 use Rattle.cb_ops.specs.declared.walk.Rest.TheVariants as rest
 use Rattle.cb_ops.specs.declared.walk.Step.{Step}
 use Rattle.cb_ops.specs.Walk.{Walk, IsMade, AllMade, IsMadeSide, IsVisit, PutRoom, images_of, joins, side_of, fulls_after_step}

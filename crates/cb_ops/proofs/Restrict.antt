@@ -1,5 +1,5 @@
 -- The laws behind `restrict` and `exists`.
-use Rattle.std.proofs.Common.{◌≡◌, ℕ, ◌+◌, ◌<◌, ◌≤◌, ◌^◌, Bool, true, false, cond, ◌||◌, List, [], ◌∷◌, length, Some, if◌then◌else◌, refl, sym, ap, subst, ◌∙◌, ◌⊎◌, inl, inr, arith}
+use Rattle.std.proofs.Common.{◌≡◌, ℕ, ◌<◌, ◌≤◌, ◌^◌, Bool, true, false, cond, ◌||◌, List, [], ◌∷◌, length, Some, refl, sym, ap, ◌∙◌, ◌⊎◌, inl, inr, arith}
 use Rattle.std.proofs.lemmas.Bool.{cases_Bool, cases_eq, cases_lt, eqb-true}
 use Rattle.std.proofs.lemmas.Option.{same_Some}
 use Rattle.std.specs.Map.{lookup}
@@ -7,13 +7,12 @@ use Rattle.indexmap.specs.IndexMap.{IndexMap, get}
 use Rattle.cb_model.specs.Bits.{Bits, put}
 use Rattle.cb_dd.specs.declared.Triple.{Triple}
 use Rattle.cb_dd.specs.declared.Node.{Node}
-use Rattle.cb_dd.specs.Diagram.{Store, IsNode, IsDiagram, IsChild, HasParts, function_of, level_of}
-use Rattle.cb_dd.proofs.Diagrams.{function_of-put, level_of-zero}
+use Rattle.cb_dd.specs.Diagram.{Store, IsNode, IsDiagram, function_of, level_of}
+use Rattle.cb_dd.proofs.Diagrams.{function_of-put}
 use Rattle.std.proofs.lemmas.Nat.{pow_pos}
-use Rattle.cb_ops.specs.Ops.{Agree, DependsOn, StandsFor, IsCofactor, Room, Grows}
+use Rattle.cb_ops.specs.Ops.{Agree, DependsOn, StandsFor, Room, Grows}
 use Rattle.cb_ops.specs.Done.{node_eq}
-use Rattle.cb_ops.proofs.Ite.{choose, put-same, put-other, essential, cofactor-self, grown-node, grown-function, grown-depends, room-low, room-high}
-use Rattle.cb_ops.proofs.Connectives.{depends-zero, room-of}
+use Rattle.cb_ops.proofs.Ite.{put-same, put-other, essential, grown-function, grown-depends}
 
 -- bits put at two places, in either order
 pub put-swap : (k l : ℕ) (x y : Bool) (a : Bits) → (k ≡ l → ⊥) → put l y (put k x a) ≡ put k x (put l y a)

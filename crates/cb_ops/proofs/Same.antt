@@ -1,6 +1,5 @@
 -- Calls that ask the same.
-use Rattle.std.proofs.Common.{◌≡◌, ℕ, ◌<◌, ◌≤◌, Bool, true, false, List, if◌then◌else◌, refl, sym, ap, ◌∙◌, ◌⊎◌, inl, inr, arith}
-use Rattle.cb_model.specs.Bits.{Bits}
+use Rattle.std.proofs.Common.{◌≡◌, ℕ, Bool, true, false, List, if◌then◌else◌, refl, sym, ap, ◌∙◌, arith}
 use Rattle.cb_dd.specs.declared.Triple.{Triple}
 use Rattle.cb_dd.specs.Diagram.{function_of}
 use Rattle.cb_dd.proofs.Diagrams.{function_of-zero, function_of-one}

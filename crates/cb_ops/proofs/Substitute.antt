@@ -7,24 +7,22 @@ use Rattle.std.proofs.Math.Pow.{pow_mono}
 use Rattle.std.proofs.Math.Nat.{mul-le-mul_left}
 use Rattle.std.specs.List.{list_any}
 use Rattle.std.specs.Option.{option_map_or}
-use Rattle.indexmap.specs.IndexMap.{IndexMap, get}
 use Rattle.cb_model.specs.Bits.{Bits}
 use Rattle.cb_dd.specs.declared.Triple.{Triple}
 use Rattle.cb_dd.specs.declared.Node.{Node}
-use Rattle.cb_dd.specs.Diagram.{Store, IsNode, IsDiagram, HasParts, function_of, level_of}
+use Rattle.cb_dd.specs.Diagram.{Store, IsNode, IsDiagram, function_of, level_of}
 use Rattle.cb_dd.proofs.Diagrams.{function_of-zero, function_of-one, function_of-node, level_of-node, node-within, kind_of, bottom, top, inner}
 use Rattle.cb_ops.specs.Ops.{Agree, DependsOn, StandsFor, IsIte, IsCofactor, Room, Grows}
-use Rattle.cb_ops.specs.Done.{node_eq}
 use Rattle.cb_ops.specs.Support.{IsListed}
-use Rattle.cb_ops.specs.Substitute.{Images, image_of, substituted, AreNodes, Spreads, SubstituteRoom, IsSubstituted, AllSubstituted, IsJoined, JoinRoom}
-use Rattle.cb_ops.proofs.Ite.{choose-all, without, without-lt, cofactor-depends, listed, literal-is, grown-node, grown-function, grown-depends, Grows-then}
+use Rattle.cb_ops.specs.Substitute.{Images, image_of, substituted, AreNodes, Spreads, SubstituteRoom, IsJoined, JoinRoom}
+use Rattle.cb_ops.proofs.Ite.{choose-all, without, without-lt, cofactor-depends, literal-is, grown-node, grown-function, grown-depends}
 use Rattle.cb_ops.proofs.Gather.{agree-at}
 
 or-true : (b : Bool) → b || true ≡ true
 or-true true = refl
 or-true false = refl
 
-agree-build : (ks : List ℕ) (p q : Bits) → ((l : ℕ) → IsListed ks l → p l ≡ q l) → Agree ks p q
+pub agree-build : (ks : List ℕ) (p q : Bits) → ((l : ℕ) → IsListed ks l → p l ≡ q l) → Agree ks p q
 agree-build [] p q h = tt
 agree-build (k ∷ ks) p q h = (h k (ap (λ b. b || list_any (nat_eq k) ks) (eq-eqb k k refl)), agree-build ks p q (λ l there. h l (ap (λ b. nat_eq l k || b) there ∙ or-true (nat_eq l k))))
 
@@ -64,14 +62,14 @@ image-node ts (p ∷ ps) l m h e = elim (cases_Bool (nat_eq l p.0)) [
   | inr other ↦ image-node ts ps l m h.1 (sym (ap (λ b. if b then Some p.1 else image_of ps l) other) ∙ e)
 ]
 
-cases-image : (o : Option Node) → ((m : Node) × (o ≡ Some m)) ⊎ (o ≡ None)
+pub cases-image : (o : Option Node) → ((m : Node) × (o ≡ Some m)) ⊎ (o ≡ None)
 cases-image (Some m) = inl (m, refl)
 cases-image None = inr refl
 
-at-some : (ts : List Triple) (list : Images) (a : Bits) (l : ℕ) (m : Node) → image_of list l ≡ Some m → substituted ts list a l ≡ function_of ts m.0 a
+pub at-some : (ts : List Triple) (list : Images) (a : Bits) (l : ℕ) (m : Node) → image_of list l ≡ Some m → substituted ts list a l ≡ function_of ts m.0 a
 at-some ts list a l m e = ap (λ o. option_map_or (λ n. function_of ts n.0 a) o (a l)) e
 
-at-none : (ts : List Triple) (list : Images) (a : Bits) (l : ℕ) → image_of list l ≡ None → substituted ts list a l ≡ a l
+pub at-none : (ts : List Triple) (list : Images) (a : Bits) (l : ℕ) → image_of list l ≡ None → substituted ts list a l ≡ a l
 at-none ts list a l e = ap (λ o. option_map_or (λ n. function_of ts n.0 a) o (a l)) e
 
 -- nothing changes when nodes are added

@@ -1,5 +1,5 @@
 -- The list of waiting calls: its answers, its room, and its end.
-use Rattle.std.proofs.Common.{◌≡◌, ℕ, ◌+◌, ◌*◌, ◌-◌, ◌<◌, ◌≤◌, ◌^◌, min, Bool, true, false, List, [], ◌∷◌, ◌++◌, length, if◌then◌else◌, Option, Some, None, IfSome, refl, sym, ap, subst, ◌∙◌, ◌⊎◌, inl, inr, arith, nat_eq, sum_by, rules, Result, Err}
+use Rattle.std.proofs.Common.{◌≡◌, ℕ, ◌+◌, ◌*◌, ◌-◌, ◌<◌, ◌≤◌, ◌^◌, min, Bool, true, false, List, [], ◌∷◌, ◌++◌, length, if◌then◌else◌, Option, Some, None, IfSome, refl, sym, ap, subst, ◌∙◌, inl, inr, arith, nat_eq, sum_by, rules, Result, Err}
 use Rattle.std.proofs.lemmas.Bool.{cases_Bool, cases_lt, true≢false}
 use Rattle.std.proofs.lemmas.List.Sums.{sum_by_push}
 use Rattle.std.proofs.lemmas.Nat.{pow_pos, pow-add}
@@ -10,7 +10,7 @@ use Rattle.cb_dd.specs.declared.Triple.{Triple}
 use Rattle.cb_dd.specs.declared.Node.{Node}
 use Rattle.cb_dd.specs.declared.Stop.{Stop}
 use Rattle.cb_dd.specs.declared.Stop.TheVariants.{Nodes, Memory}
-use Rattle.cb_dd.specs.Diagram.{Store, IsNode, IsDiagram, IsChild, function_of, level_of}
+use Rattle.cb_dd.specs.Diagram.{Store, IsNode, IsDiagram, function_of, level_of}
 use Rattle.cb_dd.proofs.Diagrams.{function_of-put}
 use Rattle.cb_ops.specs.declared.Choice.{Choice}
 use Rattle.cb_ops.specs.declared.Operation.{Operation}
@@ -20,7 +20,7 @@ use Rattle.cb_ops.specs.declared.Left.{Left}
 use Rattle.cb_ops.specs.declared.Left.TheVariants as left
 use Rattle.cb_ops.specs.declared.Turn.{Turn}
 use Rattle.cb_ops.specs.declared.Turn.TheVariants as turn
-use Rattle.cb_ops.specs.Ops.{Grows, IsIte, IsXor, IsCofactor, DependsOn, DependAll, Room, HasCause}
+use Rattle.cb_ops.specs.Ops.{Grows, IsIte, IsXor, DependsOn, DependAll, Room, HasCause}
 use Rattle.cb_ops.specs.Waiting.{combined, value_of, IsValue, AreCalled, IsPart, IsHalf, HasLeft, Waits, IsAnswered, Asked, Resumed, bit_of, made_of, fulls_after_turn}
 use Rattle.cb_ops.proofs.Ite.{put-id, essential, grown-node, grown-function, grown-level, grown-child, grown-cofactor, Grows-same, Grows-then, grown-depends, cofactor-depends, without, without-lt, listed, least-three}
 

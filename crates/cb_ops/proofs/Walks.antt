@@ -1,5 +1,5 @@
 -- A walk with a list of the nodes that wait: its answers, its room, and its end.
-use Rattle.std.proofs.Common.{◌≡◌, ℕ, ◌+◌, ◌*◌, ◌-◌, ◌<◌, ◌≤◌, ◌^◌, Bool, true, false, List, [], ◌∷◌, ◌++◌, length, refl, sym, ap, subst, ◌∙◌, ◌⊎◌, inl, inr, arith, nat_eq, sum_by, rules, Some, Result, Err}
+use Rattle.std.proofs.Common.{◌≡◌, ℕ, ◌+◌, ◌*◌, ◌-◌, ◌<◌, ◌≤◌, ◌^◌, Bool, true, false, List, [], ◌∷◌, ◌++◌, length, refl, sym, ap, subst, ◌∙◌, ◌⊎◌, inl, inr, arith, nat_eq, sum_by, Some}
 use Rattle.std.proofs.lemmas.Bool.{true≢false}
 use Rattle.std.proofs.lemmas.List.Sums.{sum_by_push}
 use Rattle.std.proofs.lemmas.Nat.{pow_pos, pow-add}
@@ -7,12 +7,10 @@ use Rattle.std.proofs.Math.Pow.{pow_mono}
 use Rattle.std.proofs.Math.Nat.{mul-le-mul_left}
 use Rattle.std.specs.List.{list_any}
 use Rattle.indexmap.specs.IndexMap.{IndexMap, get}
-use Rattle.cb_model.specs.Bits.{Bits, put}
+use Rattle.cb_model.specs.Bits.{Bits}
 use Rattle.cb_dd.specs.declared.Triple.{Triple}
 use Rattle.cb_dd.specs.declared.Node.{Node}
-use Rattle.cb_dd.specs.declared.Stop.{Stop}
-use Rattle.cb_dd.specs.declared.Stop.TheVariants.{Nodes, Memory}
-use Rattle.cb_dd.specs.Diagram.{Store, IsNode, IsDiagram, function_of, level_of}
+use Rattle.cb_dd.specs.Diagram.{Store, IsNode, IsDiagram, level_of}
 use Rattle.cb_ops.specs.Ops.{Grows, IsCofactor}
 use Rattle.cb_ops.specs.Done.{node_eq}
 use Rattle.cb_ops.specs.declared.walk.Visit.{Visit}
@@ -20,7 +18,7 @@ use Rattle.cb_ops.specs.declared.walk.Rest.{Rest}
 use Rattle.cb_ops.specs.declared.walk.Rest.TheVariants as rest
 use Rattle.cb_ops.specs.declared.walk.Step.{Step}
 use Rattle.cb_ops.specs.declared.walk.Step.TheVariants as step
-use Rattle.cb_ops.specs.Walk.{Walk, IsMade, AllMade, IsMadeSide, HasRest, IsVisit, IsStill, WentDown, WentUp, side_of, joins, fulls_after_step}
+use Rattle.cb_ops.specs.Walk.{Walk, IsMade, AllMade, IsMadeSide, HasRest, IsVisit, IsStill, WentDown, WentUp, side_of, joins}
 use Rattle.cb_ops.proofs.Ite.{grown-node, grown-function, grown-level, grown-cofactor, Grows-same, Grows-then, without, without-lt}
 
 -- ---- the list

@@ -1,10 +1,11 @@
 // Levels replaced by nodes.
-ghost use Rattle.std.specs.Prelude.{◌≡◌, ◌≢◌, ◌+◌, ◌-◌, ◌*◌, ◌<◌, ◌≤◌, ◌^◌, [], ◌∷◌, List, ℕ, length, map, Ok, Err, IfOk, OnOk, IsTrue, None, Some, if◌then◌else◌};
+ghost use Rattle.std.specs.Prelude.{◌≡◌, ◌≢◌, ◌+◌, ◌-◌, ◌*◌, ◌<◌, ◌≤◌, ◌^◌, [], ◌∷◌, List, ℕ, length, map, Ok, Err, IfOk, OnOk, IsTrue, None, Some, true, if◌then◌else◌};
 ghost use Rattle.std.specs.List.Sorted.{IsStrictlyIncreasing};
 ghost use Rattle.cb_model.specs.Bits.{Bits, put};
 ghost use Rattle.cb_dd.specs.Diagram.{IsDiagram, IsNode, function_of, fulls_after};
 ghost use Rattle.cb_ops.specs.Ops.{Grows, StandsFor, Room, HasCause};
 ghost use Rattle.cb_ops.specs.Substitute.{AreNodes, AllSubstituted, SubstituteCause, SubstituteRoom, IsJoined, JoinRoom, image_of, substituted};
+ghost use Rattle.cb_ops.specs.Composed.{AreLower, ComposedRoom, ComposedCause, LevelRoom, is_replaced};
 ghost use Rattle.cb_ops.specs.Walk.{AllMade, IsMadeSide, IsVisit, WentDown, WentUp, PutRoom, images_of, side_of, fulls_after_step};
 
 use crate::walk::{Rest, Step, Visit};
@@ -37,6 +38,63 @@ impl Ops {
         let high = self.restrict(f, level, true)?;
         let n = self.ite(g, high, low)?;
         Ok(n)
+    }
+
+    /// The node with each level of the list replaced by its node, all at once, where no node of the list depends on a
+    /// greater level of the list.
+    ///
+    /// It composes at one level after another, the least first, and only where the node depends on the level. `substitute`
+    /// takes any list, and may take far longer: it puts a node in once for each path to the level.
+    pub fn compose_all(&mut self, f: Node, list: &[(u32, Node)]) -> Result<Node, Stop>
+        requires f { IsNode self.old.triples f.0 }
+        requires nodes { AreNodes self.old.triples list.now }
+        requires rise { IsStrictlyIncreasing (map (λ p. p.0) list.now) }
+        requires lower { AreLower self.old.triples list.now }
+        ensures is_node { IfOk result (λ n. IsNode self.new.triples n.0) }
+        ensures function { IfOk result (λ n. StandsFor self.new.triples n.0 (λ a.
+            function_of self.old.triples f.0
+            (substituted self.old.triples list.now a))) }
+        ensures grows { Grows self.old self.new }
+        ensures room { ComposedRoom f.0 list.now self.old self.new }
+        ensures full { result ≡ Err Stop.Nodes → length self.new.triples ≡ self.new.budget }
+        ensures nodes { result ≡ Err Stop.Nodes → ComposedCause f.0 list.now self.old self.new }
+        ensures unbounded { self.old.budget ≡ 2 ^ 64 - 1 → result ≢ Err Stop.Nodes }
+        ensures fulls { self.new.fulls ≡ fulls_after self.old.fulls result }
+        ensures diagram { IsDiagram self.new.triples }
+    {
+        let _count = self.count();
+        let Ok(levels) = self.support(f) else {
+            return Err(Stop::Memory);
+        };
+        let mut n = f;
+        for level in levels.as_slice() {
+            n = self.compose_at(n, *level, list)?;
+        }
+        Ok(n)
+    }
+
+    // The node with the level replaced, where the list has a node for it.
+    fn compose_at(&mut self, f: Node, level: u32, list: &[(u32, Node)]) -> Result<Node, Stop>
+        requires f { IsNode self.old.triples f.0 }
+        requires nodes { AreNodes self.old.triples list.now }
+        requires rise { IsStrictlyIncreasing (map (λ p. p.0) list.now) }
+        ensures is_node { IfOk result (λ n. IsNode self.new.triples n.0) }
+        ensures function { IfOk result (λ n. StandsFor self.new.triples n.0 (λ a.
+            function_of self.old.triples f.0
+            (put level (substituted self.old.triples list.now a level) a))) }
+        ensures grows { Grows self.old self.new }
+        ensures room { LevelRoom f.0 level list.now self.old self.new }
+        ensures replaced { result ≡ Err Stop.Nodes → is_replaced list.now level ≡ true }
+        ensures full { result ≡ Err Stop.Nodes → length self.new.triples ≡ self.new.budget }
+        ensures unbounded { self.old.budget ≡ 2 ^ 64 - 1 → result ≢ Err Stop.Nodes }
+        ensures fulls { self.new.fulls ≡ fulls_after self.old.fulls result }
+        ensures diagram { IsDiagram self.new.triples }
+    {
+        let _count = self.count();
+        let Some(g) = replacing(list, level) else {
+            return Ok(f);
+        };
+        self.compose(f, level, g)
     }
 
     /// The node with each level of the list replaced by its node, all at once. It is the node itself where all its

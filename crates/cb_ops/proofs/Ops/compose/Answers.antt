@@ -1,4 +1,4 @@
-use Rattle.std.proofs.Common.{ℕ, List, [], ◌∷◌, ◌∙◌, arith}
+use Rattle.std.proofs.Common.{[], ◌∷◌, ◌∙◌, arith}
 use Rattle.std.proofs.lemmas.Result.{err_from_is_err_and}
 use Rattle.cb_ops.proofs.Composed.{composed-high, composed-is, composed-room, composed-cause}
 use Rattle.cb_ops.proofs.Ops.compose.Goals as goal

@@ -1,4 +1,4 @@
-use Rattle.std.proofs.Common.{arith, ◌≡◌, ◌^◌, ◌<◌, [], ◌∷◌, refl, sym, subst}
+use Rattle.std.proofs.Common.{arith, ◌≡◌, ◌^◌, refl, sym, subst}
 use Rattle.cb_dd.specs.Diagram.{HasParts, level_of}
 use Rattle.cb_ops.proofs.Joins.{sides-self, sides-meet, meet-room}
 use Rattle.cb_ops.proofs.Ops.enter.Goals as goal

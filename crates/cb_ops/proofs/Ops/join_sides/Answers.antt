@@ -1,12 +1,10 @@
-use Rattle.std.proofs.Common.{rules, [], ◌∷◌, refl, sym, ap, subst, ◌≡◌, ◌∙◌, ◌<◌, arith, Result, IfOk}
+use Rattle.std.proofs.Common.{rules, [], ◌∷◌, sym, subst, ◌≡◌, ◌∙◌, ◌<◌, arith}
 use Rattle.std.proofs.lemmas.Result.{err_from_is_err_and}
-use Rattle.cb_dd.specs.Diagram.{Store}
 use Rattle.cb_ops.specs.Ops.{DependsOn}
-use Rattle.cb_ops.specs.declared.walk.Step.{Step}
 use Rattle.cb_ops.specs.declared.walk.Step.TheVariants as step
-use Rattle.cb_ops.specs.Walk.{WentDown, IsStill, AllMade, sides_of}
+use Rattle.cb_ops.specs.Walk.{sides_of}
 use Rattle.cb_ops.proofs.Ite.{Grows-same, Grows-then}
-use Rattle.cb_ops.proofs.Walks.{Walking, walk_work, walking-start, walking-node, walking-same, walking-refused, walking-visit, walking-side, joined-room, walking-up, up-work, walking-answer, walking-room, all-grown, entered, entered-work}
+use Rattle.cb_ops.proofs.Walks.{Walking, walk_work, walking-node, walking-same, walking-refused, walking-visit, walking-side, joined-room, walking-up, up-work, walking-answer, walking-room, all-grown, entered, entered-work}
 use Rattle.cb_ops.proofs.Joins.{sides-stay, depends-on, as-asked, as-room, step-cause}
 use Rattle.cb_ops.proofs.Ops.join_sides.Goals as goal
 

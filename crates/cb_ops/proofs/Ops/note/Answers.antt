@@ -1,6 +1,5 @@
 use Rattle.std.proofs.Common.{refl, ◌≡◌, ℕ, ◌+◌, ◌<◌, ◌≤◌, arith, ap, sym, subst, ◌∙◌, length}
 use Rattle.cb_dd.specs.Diagram.{Store}
-use Rattle.cb_ops.specs.declared.Call.{Call}
 use Rattle.cb_ops.specs.Call.{IsAnswer}
 use Rattle.cb_ops.proofs.Memo.{IsMemo-insert, IsMemo-same, either-way}
 use Rattle.cb_ops.proofs.Same.{same-call}

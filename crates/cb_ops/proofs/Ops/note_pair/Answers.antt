@@ -1,6 +1,5 @@
 use Rattle.std.proofs.Common.{◌≡◌, ℕ, ◌+◌, ◌<◌, ◌≤◌, arith, ap, sym, subst, ◌∙◌, length}
 use Rattle.cb_dd.specs.Diagram.{Store}
-use Rattle.cb_ops.specs.Call.{IsMemo}
 use Rattle.cb_ops.specs.Pair.{IsPairAnswer}
 use Rattle.cb_ops.proofs.Memo.{IsMemo-same, either-way}
 use Rattle.cb_ops.proofs.Pairs.{IsPairs-insert, IsPairs-same, IsPairs-wide, pair-call, pair-below}

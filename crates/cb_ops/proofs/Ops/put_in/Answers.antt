@@ -1,5 +1,5 @@
 use Rattle.std.proofs.Common.{refl, ap, subst, ◌^◌}
-use Rattle.cb_ops.specs.Walk.{IsMade, IsMadeSide, side_of, images_of}
+use Rattle.cb_ops.specs.Walk.{IsMadeSide, side_of, images_of}
 use Rattle.cb_ops.proofs.Ite.{Grows-same}
 use Rattle.cb_ops.proofs.Walks.{rest-low, all-grown, made-more}
 use Rattle.cb_ops.proofs.Replaced.{images-stay, images-step, images-room, images-still}

@@ -1,4 +1,4 @@
-use Rattle.std.proofs.Common.{refl, ap, sym, subst, ◌∙◌}
+use Rattle.std.proofs.Common.{refl, ap, sym, subst}
 use Rattle.cb_dd.specs.Diagram.{Store}
 use Rattle.cb_ops.specs.declared.Left.TheVariants as left
 use Rattle.cb_ops.specs.Waiting.{bit_of, IsAnswered}

@@ -1,4 +1,4 @@
-use Rattle.std.proofs.Common.{ℕ, List, length, ◌^◌, rules, [], ◌∷◌, refl, sym, ap, subst, ◌≡◌, ◌∙◌, ◌<◌, arith}
+use Rattle.std.proofs.Common.{ℕ, List, length, ◌^◌, rules, [], sym, subst, ◌≡◌, ◌∙◌, ◌<◌}
 use Rattle.std.proofs.lemmas.Result.{err_from_is_err_and}
 use Rattle.cb_ops.specs.declared.walk.Step.TheVariants as step
 use Rattle.cb_ops.specs.Walk.{images_of}

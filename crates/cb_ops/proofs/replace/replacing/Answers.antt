@@ -1,4 +1,4 @@
-use Rattle.std.proofs.Common.{◌≡◌, ◌≤◌, ltb, length, rules, ◌∙◌, sym, arith, true, false}
+use Rattle.std.proofs.Common.{◌≡◌, ltb, rules, ◌∙◌, sym, true, false}
 use Rattle.std.proofs.lemmas.List.Sorted.{IsPartitionPoint-from_clause, IsPartitionedBy-ltb}
 use Rattle.std.specs.List.Sorted.{IsPartitionPoint}
 use Rattle.cb_ops.proofs.Images.{rising-keys, found-at, past-end, passed-over}
