@@ -1,12 +1,12 @@
 -- Pairs of nodes in one equation.
-use Rattle.std.proofs.Common.{◌≡◌, ℕ, zero, suc, ◌+◌, ◌*◌, ◌^◌, ◌<◌, ◌≤◌, Bool, true, false, ◌||◌, List, [], ◌∷◌, ◌++◌, length, drop, refl, sym, ap, ap₂, subst, ◌∙◌, arith, append-nil, mul-le-mul_right}
+use Rattle.std.proofs.Common.{◌≡◌, ℕ, zero, suc, ◌+◌, ◌*◌, ◌^◌, ◌<◌, ◌≤◌, Bool, true, false, ◌||◌, List, [], ◌∷◌, length, drop, refl, sym, ap, ap₂, ◌∙◌, arith, append-nil, mul-le-mul_right}
 use Rattle.std.specs.Prelude.{get_or}
 use Rattle.cb_model.specs.Bits.{Bits, Each, xor}
 use Rattle.cb_dd.specs.declared.Triple.{Triple}
 use Rattle.cb_dd.specs.declared.Node.{Node}
 use Rattle.cb_dd.specs.Diagram.{Store, IsNode, function_of}
-use Rattle.cb_ops.specs.Ops.{Grows, StandsFor, Room, DependsOn, Agree}
-use Rattle.cb_ops.proofs.Ite.{grown-node, grown-function, grown-depends, Grows-then}
+use Rattle.cb_ops.specs.Ops.{Grows, StandsFor, Room, DependsOn}
+use Rattle.cb_ops.proofs.Ite.{grown-node, grown-function, grown-depends}
 use Rattle.cb_dd.proofs.Diagrams.{function_of-zero}
 use Rattle.cb_solution.specs.Differ.{some_differ, ArePairs, DependPairs, MoreRoom, DifferRoom}
 

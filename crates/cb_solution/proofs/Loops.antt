@@ -1,5 +1,5 @@
 -- Elimination level by level, and the images on the way back.
-use Rattle.std.proofs.Common.{◌≡◌, ◌⊎◌, inl, inr, ℕ, zero, suc, ◌+◌, ◌*◌, ◌<◌, ◌≤◌, ◌^◌, List, [], ◌∷◌, ◌++◌, length, take, drop, get_or, refl, sym, ap, subst, ◌∙◌, arith, length-append}
+use Rattle.std.proofs.Common.{◌≡◌, ◌⊎◌, inl, inr, ℕ, zero, suc, ◌+◌, ◌*◌, ◌<◌, ◌≤◌, ◌^◌, List, [], ◌∷◌, ◌++◌, length, take, drop, get_or, None, refl, sym, ap, subst, ◌∙◌, arith, length-append}
 use Rattle.std.proofs.lemmas.Bool.{cases_eq, true≢false}
 use Rattle.std.proofs.lemmas.List.{take_more, drop_more, get_or_append_left}
 use Rattle.std.proofs.Math.Seq.{get_or-append_seam, take-length}
@@ -11,12 +11,14 @@ use Rattle.cb_dd.specs.Diagram.{Store, IsDiagram, IsNode, function_of}
 use Rattle.cb_dd.proofs.Diagrams.{function_of-zero}
 use Rattle.cb_ops.specs.Ops.{Grows, StandsFor, Room, DependsOn}
 use Rattle.cb_ops.specs.Support.{IsListed}
-use Rattle.cb_ops.specs.Substitute.{Images}
+use Rattle.cb_ops.specs.Substitute.{Images, image_of}
+use Rattle.cb_ops.specs.Composed.{AreLower}
 use Rattle.cb_ops.proofs.Ite.{grown-function, grown-node, grown-depends, Grows-then, Grows-same}
 use Rattle.cb_boole.specs.Elimination.{Function, both, rest, solved, DependsOnly}
 use Rattle.cb_boole.proofs.Only.{both_only}
 use Rattle.cb_boole.proofs.Chain.{rest_false, solved_keeps}
 use Rattle.cb_solution.specs.Solution.{AreRests, IsFalling, IsImage, IsSolution, HasRest, ImageRoom, ImagesRoom, RestsRoom, SolutionRoom}
+use Rattle.cb_solution.proofs.Lower.{solution-lower, solution-fresh}
 use Rattle.cb_solution.proofs.Solved.{listed-there, only-from, only-into, listed-at, solution-more, solution-within, somewhere-one}
 
 -- ---- rests of the first levels
@@ -243,6 +245,16 @@ module _ (i f : ℕ) (levels : List ℕ) (s u : Store) (images : Images) (so : I
       most = most-images;
       fulls = fulls ∙ so.fulls;
     })
+
+-- the images are free of the greater replaced levels, and the next level has none yet
+module _ (i f : ℕ) (levels : List ℕ) (s u : Store) (images : Images) (so : ImagesSo (i + 1) f levels s u images) (fall : IsFalling levels) where
+  pub images-lower : AreLower u.triples images
+  images-lower = solution-lower s.triples u.triples so.node (drop (i + 1) levels) images (drop-falls (i + 1) levels fall) so.sol
+
+  pub images-fresh : image_of images (get_or levels i 0) ≡ None
+  images-fresh =
+      let less : i < length levels = (let h = so.few in omega (arith, h)) in
+      solution-fresh s.triples u.triples so.node (get_or levels i 0) (drop (i + 1) levels) images (subst IsFalling (drop_more levels i 0 less) (drop-falls i levels fall)) so.sol
 
 pub images-room : (i f : ℕ) (levels : List ℕ) (s u : Store) (images : Images) → ImagesSo i f levels s u images → ImagesRoom f levels s u
 images-room i f levels s u images so = record { most = λ ls d all. scaled-images (length s.triples) so.done (length levels) (length u.triples) (2 * 2 ^ length ls + 2 ^ length ls * 2 ^ length ls) (so.most ls d all) (let h = so.few in omega arith) }

@@ -1,16 +1,20 @@
 -- What elimination of one level makes, and how many nodes.
-use Rattle.std.proofs.Common.{◌≡◌, ℕ, ◌+◌, ◌<◌, ◌≤◌, ◌^◌, true, false, ◌&&◌, List, [], ◌∷◌, length, if◌then◌else◌, sym, ap, ap₂, ◌∙◌, arith}
+use Rattle.std.proofs.Common.{◌≡◌, ℕ, ◌+◌, ◌<◌, ◌≤◌, ◌*◌, ◌^◌, true, false, ◌&&◌, List, [], ◌∷◌, length, None, if◌then◌else◌, sym, ap, ap₂, ◌∙◌, arith}
 use Rattle.std.proofs.lemmas.Nat.{pow_pos}
+use Rattle.std.specs.List.{filter}
+use Rattle.std.specs.Option.{is_some}
 use Rattle.cb_model.specs.Bits.{Bits, put, xor}
 use Rattle.cb_dd.specs.Diagram.{Store, IsNode, function_of}
 use Rattle.cb_ops.specs.Ops.{Grows, StandsFor, Room, DependsOn}
 use Rattle.cb_ops.specs.Support.{IsListed}
-use Rattle.cb_ops.specs.Substitute.{Images, AreNodes, SubstituteRoom, substituted}
+use Rattle.cb_ops.specs.Substitute.{Images, AreNodes, image_of, substituted}
+use Rattle.cb_ops.specs.Composed.{ComposedRoom, is_replaced}
 use Rattle.cb_ops.proofs.Ite.{grown-function, grown-depends, Grows-then, literal-is}
 use Rattle.cb_ops.proofs.Gather.{agree-at}
 use Rattle.cb_ops.proofs.Substitute.{substituted-grown, image-node}
 use Rattle.cb_boole.specs.Elimination.{both}
 use Rattle.cb_solution.specs.Solution.{IsImage, ImageRoom}
+use Rattle.cb_solution.proofs.Lower.{passing-less, rows-squared}
 
 -- the sides of f at the level, and what is 1 where both are
 module _ (s t u v : Store) (st : Grows s t) (tu : Grows t u) (f level low high : ℕ) (wf : IsNode s.triples f) (wl : IsNode t.triples low)
@@ -44,16 +48,17 @@ module _ (s t u v : Store) (st : Grows s t) (tu : Grows t u) (images : Images) (
           ∙ sym (is_turned.at b);
     }
 
-    pub image-room : length t.triples ≤ length s.triples + 1 → Room (f ∷ own ∷ []) 2 t u → SubstituteRoom turned images u v → ImageRoom f level images s v
-    image-room one first second = record {
+    pub image-room : length t.triples ≤ length s.triples + 1 → Room (f ∷ own ∷ []) 2 t u → image_of images level ≡ None → ComposedRoom turned images u v → ImageRoom f level images s v
+    image-room one first fresh second = record {
       most = λ ls d there within.
           let m = first.most ls (grown-depends s t st f ls wf d, (record { agrees = λ a b h. own-bit a ∙ agree-at ls a b h level there ∙ sym (own-bit b) }, tt)) in
-          let n = second.most ls ls (record {
+          let n = second.most ls (record {
             depends = turned-depends ls d there;
             covers = λ l w e. w;
             images = λ l i e. grown-depends s u (Grows-then s t u st tu) i.0 ls (image-node s.triples images l i ws e) (within.each l i e);
           }) in
-          omega arith;
+          let k : length (filter (is_replaced images) ls) * (3 * 2 ^ length ls) ≤ 2 ^ length ls * 2 ^ length ls = rows-squared (length (filter (is_replaced images) ls)) (length ls) (passing-less (is_replaced images) ls level there (ap is_some fresh)) in
+          omega (arith, one, m, n, k);
     }
 
   pub turned-room : length t.triples ≤ length s.triples + 1 → Room (f ∷ own ∷ []) 2 t u → ImageRoom f level images s u

@@ -1,5 +1,5 @@
 -- Where the nodes of some pair differ, and how many nodes tell it.
-use Rattle.std.specs.Prelude.{◌≡◌, ℕ, ◌+◌, ◌*◌, ◌^◌, ◌<◌, ◌≤◌, Bool, false, ◌||◌, List, [], ◌∷◌, length}
+use Rattle.std.specs.Prelude.{ℕ, ◌+◌, ◌*◌, ◌^◌, ◌≤◌, Bool, false, ◌||◌, List, [], ◌∷◌, length}
 use Rattle.cb_model.specs.Bits.{Bits, Each, xor}
 use Rattle.cb_dd.specs.declared.Triple.{Triple}
 use Rattle.cb_dd.specs.declared.Node.{Node}

@@ -1,11 +1,12 @@
 //! Elimination of levels on decision diagrams, and the solution of an equation for them (Boole 1854).
 #![tactic(auto)]
 
-ghost use Rattle.std.specs.Prelude.{◌≡◌, ℕ, ◌+◌, ◌*◌, ◌<◌, ◌≤◌, ◌^◌, [], ◌∷◌, length, map, Ok, Err, IfOk, IfSome, IfNone};
+ghost use Rattle.std.specs.Prelude.{◌≡◌, ℕ, ◌+◌, ◌*◌, ◌<◌, ◌≤◌, ◌^◌, [], ◌∷◌, length, map, None, Ok, Err, IfOk, IfSome, IfNone};
 ghost use Rattle.std.specs.List.Sorted.{IsStrictlyIncreasing};
 ghost use Rattle.cb_dd.specs.Diagram.{Store, IsDiagram, IsNode, function_of, fulls_after};
 ghost use Rattle.cb_ops.specs.Ops.{Grows, StandsFor, Room};
-ghost use Rattle.cb_ops.specs.Substitute.{AreNodes};
+ghost use Rattle.cb_ops.specs.Substitute.{AreNodes, image_of};
+ghost use Rattle.cb_ops.specs.Composed.{AreLower};
 ghost use Rattle.cb_boole.specs.Elimination.{both, rest};
 ghost use Rattle.cb_solution.specs.Solution.{AreRests, IsFalling, IsImage, IsSolution, HasRest, ImageRoom, ImagesRoom, RestsRoom, SolutionRoom, has_refused};
 
@@ -37,6 +38,8 @@ fn image(ops: &mut Ops, f: Node, level: u32, images: &[(u32, Node)]) -> Result<N
     requires f { IsNode ops.old.triples f.0 }
     requires images { AreNodes ops.old.triples images.now }
     requires rise { IsStrictlyIncreasing (map (λ p. p.0) images.now) }
+    requires lower { AreLower ops.old.triples images.now }
+    requires fresh { image_of images.now level ≡ None }
     ensures is_node { IfOk result (λ n. IsNode ops.new.triples n.0) }
     ensures function { IfOk result (λ n. IsImage ops.old.triples ops.new.triples f.0 level images.now n.0) }
     ensures grows { Grows ops.old ops.new }
@@ -46,7 +49,7 @@ fn image(ops: &mut Ops, f: Node, level: u32, images: &[(u32, Node)]) -> Result<N
 {
     let own = ops.node(level, Node::ZERO, Node::ONE)?;
     let turned = ops.xor(f, own)?;
-    let n = ops.substitute(turned, images)?;
+    let n = ops.compose_all(turned, images)?;
     Ok(n)
 }
 

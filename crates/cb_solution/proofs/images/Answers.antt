@@ -1,13 +1,27 @@
 use Rattle.std.proofs.Common.{◌≡◌, ◌+◌, ◌-◌, ◌<◌, ◌≤◌, [], ◌∷◌, ◌++◌, length, get_or, subst, sym, arith}
 use Rattle.std.proofs.lemmas.Grind.{common_steps}
 use Rattle.cb_ops.specs.Substitute.{Images}
-use Rattle.cb_solution.proofs.Loops.{ImagesSo, images-first, images-next, images-stop, images-room, images-end}
+use Rattle.cb_solution.proofs.Loops.{ImagesSo, images-first, images-next, images-stop, images-room, images-end, images-lower, images-fresh}
 use Rattle.cb_solution.proofs.images.Goals as goal
 
 pub loop-k-init : goal.loop-k-init
 loop-k-init c =
     subst (λ (xs : Images). ImagesSo (length c.args.nodes.now) c.args.f.0 c.args.levels.now c.args.ops.now c.args.ops.now xs) (sym c.new-images.ensures.items)
     (images-first c.args.f.0 c.args.levels.now c.args.ops.now c.args.nodes.now c.requires.rests)
+
+pub image-requires-clause-lower : goal.image-requires-clause-lower
+image-requires-clause-lower c =
+    let pos : 0 < c.loop-k.k = c.loop-k-test.true in
+    let next : c.loop-k.k ≡ c.loop-k.k - 1 + 1 = omega arith in
+    rw c.deref.ensures.value (images-lower (c.loop-k.k - 1) c.args.f.0 c.args.levels.now c.args.ops.now c.loop-k.ops c.loop-k.images.items
+    (subst (λ j. ImagesSo j c.args.f.0 c.args.levels.now c.args.ops.now c.loop-k.ops c.loop-k.images.items) next c.loop-k.invariant) c.requires.fall)
+
+pub image-requires-clause-fresh : goal.image-requires-clause-fresh
+image-requires-clause-fresh c =
+    let pos : 0 < c.loop-k.k = c.loop-k-test.true in
+    let next : c.loop-k.k ≡ c.loop-k.k - 1 + 1 = omega arith in
+    rw c.deref.ensures.value (images-fresh (c.loop-k.k - 1) c.args.f.0 c.args.levels.now c.args.ops.now c.loop-k.ops c.loop-k.images.items
+    (subst (λ j. ImagesSo j c.args.f.0 c.args.levels.now c.args.ops.now c.loop-k.ops c.loop-k.images.items) next c.loop-k.invariant) c.requires.fall)
 
 pub returns-in_err-node-clause-room : goal.returns-in_err-node-clause-room
 returns-in_err-node-clause-room c =

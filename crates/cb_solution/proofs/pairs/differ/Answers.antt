@@ -1,6 +1,6 @@
-use Rattle.std.proofs.Common.{◌∙◌, refl, sym, arith, length, ◌≤◌, ◌<◌, ◌+◌}
+use Rattle.std.proofs.Common.{◌∙◌, refl, arith, ◌+◌}
 use Rattle.cb_ops.proofs.Ite.{Grows-then}
-use Rattle.cb_solution.proofs.Gathered.{grows-none, zero-or, zero-depends, pair-grown, function-on, depends-on, room-on, room-all, function-all}
+use Rattle.cb_solution.proofs.Gathered.{grows-none, zero-or, zero-depends, pair-grown, function-on, depends-on, room-on, room-all}
 use Rattle.cb_solution.proofs.pairs.differ.Goals as goal
 
 pub loop-f-init : goal.loop-f-init

@@ -1,4 +1,4 @@
-use Rattle.cb_solution.proofs.Gathered.{more-is, more-room, first-room}
+use Rattle.cb_solution.proofs.Gathered.{more-is, more-room}
 use Rattle.cb_solution.proofs.pairs.differ_more.Goals as goal
 
 pub returns-in_err-n-clause-room : goal.returns-in_err-n-clause-room
