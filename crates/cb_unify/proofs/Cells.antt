@@ -9,7 +9,7 @@ use Rattle.cb_heap.specs.declared.Stored.TheVariants as cell
 use Rattle.cb_heap.specs.Reading.{Reading, CellHolds, IsReading}
 use Rattle.cb_heap.specs.Finite.{Names}
 use Rattle.cb_heap.proofs.Steps.{no_some, some-inj}
-use Rattle.cb_unify.specs.State.{SlotsRise}
+use Rattle.cb_join.specs.Joins.{Rising}
 
 pub same-map : (g h : Reading) (j k : ℕ) → ((i : ℕ) → j ≤ i → i < j + k → g i ≡ h i) → map g (numbers_from j k) ≡ map h (numbers_from j k)
 same-map g h j zero f = refl
@@ -36,7 +36,7 @@ reading-bits t w w' ss cs g same q = record {
 
 -- ---- the slots of the leaves
 
-pub rise-least : (n k : ℕ) (cs : List Stored) → SlotsRise n k cs → k ≤ n
+pub rise-least : (n k : ℕ) (cs : List Stored) → Rising n k cs → k ≤ n
 rise-least n k [] h = h
 rise-least n k (cell.Leaf x ∷ cs) h = let a = h.0 in let b = rise-least n (suc x) cs h.1 in omega arith
 rise-least n k (cell.BusVar ∷ cs) h = rise-least n k cs h
@@ -49,7 +49,7 @@ rise-least n k (cell.Bound to ∷ cs) h = rise-least n k cs h
 rise-least n k (cell.Same to ∷ cs) h = rise-least n k cs h
 
 -- more slots, and cells behind whose slots go on rising
-pub rise-append : (n m k : ℕ) (cs more : List Stored) → SlotsRise n k cs → SlotsRise m n more → ((j : ℕ) → j ≤ n → SlotsRise m j more) → SlotsRise m k (cs ++ more)
+pub rise-append : (n m k : ℕ) (cs more : List Stored) → Rising n k cs → Rising m n more → ((j : ℕ) → j ≤ n → Rising m j more) → Rising m k (cs ++ more)
 rise-append n m k [] more h q low = low k h
 rise-append n m k (cell.Leaf x ∷ cs) more h q low = (h.0, rise-append n m (suc x) cs more h.1 q low)
 rise-append n m k (cell.BusVar ∷ cs) more h q low = rise-append n m k cs more h q low
@@ -61,7 +61,7 @@ rise-append n m k (cell.Node i j ∷ cs) more h q low = rise-append n m k cs mor
 rise-append n m k (cell.Bound to ∷ cs) more h q low = rise-append n m k cs more h q low
 rise-append n m k (cell.Same to ∷ cs) more h q low = rise-append n m k cs more h q low
 
-pub rise-more : (n m k : ℕ) (cs : List Stored) → n ≤ m → SlotsRise n k cs → SlotsRise m k cs
+pub rise-more : (n m k : ℕ) (cs : List Stored) → n ≤ m → Rising n k cs → Rising m k cs
 rise-more n m k [] l h = omega arith
 rise-more n m k (cell.Leaf x ∷ cs) l h = (h.0, rise-more n m (suc x) cs l h.1)
 rise-more n m k (cell.BusVar ∷ cs) l h = rise-more n m k cs l h
@@ -81,7 +81,7 @@ same-slot x y n e l = subst (λ z. z < n) (ap slot-of e) l
     slot-of _ = x
 
 -- the slot of a leaf is there
-pub rise-below : (n k : ℕ) (cs : List Stored) → SlotsRise n k cs → (r x : ℕ) → slice_get cs r ≡ Some (cell.Leaf x) → x < n
+pub rise-below : (n k : ℕ) (cs : List Stored) → Rising n k cs → (r x : ℕ) → slice_get cs r ≡ Some (cell.Leaf x) → x < n
 rise-below n k [] h r x e = absurd (no_some _ (cell.Leaf x) refl e)
 rise-below n k (cell.Leaf y ∷ cs) h zero x e = same-slot y x n (some-inj (cell.Leaf y) (cell.Leaf x) e) (let b = rise-least n (suc y) cs h.1 in omega arith)
 rise-below n k (cell.Leaf y ∷ cs) h (suc r) x e = rise-below n (suc y) cs h.1 r x e

@@ -1,10 +1,18 @@
 -- What new variables and new cells do to the values of a state.
-use Rattle.std.specs.Prelude.{◌≡◌, ℕ, ◌<◌, List, ◌++◌, length, Some, slice_get}
+use Rattle.std.specs.Prelude.{◌≡◌, ℕ, ◌+◌, ◌<◌, List, [], ◌∷◌, ◌++◌, length, Some, slice_get}
 use Rattle.cb_model.specs.declared.Sort.{Sort}
 use Rattle.cb_model.specs.declared.Tree.{Tree}
 use Rattle.cb_model.specs.Bits.{Bits}
 use Rattle.cb_model.specs.Values.{Ground, Bit, Sorts, Fits, Valuation, tree_value}
-use Rattle.cb_heap.specs.Reading.{Reading, CellsHold}
+use Rattle.cb_model.specs.Program.{bools}
+use Rattle.cb_boole.specs.View.{InRange}
+use Rattle.cb_elim.specs.Store.{Seen as Booleans, slot_bits, view_of}
+use Rattle.cb_heap.specs.declared.Cell.{Cell}
+use Rattle.cb_heap.specs.declared.Stored.{Stored}
+use Rattle.cb_heap.specs.Heap.{IsAddable, sort_of, stored_as}
+use Rattle.cb_heap.specs.Reading.{Reading, CellHolds, CellsHold}
+use Rattle.cb_heap.specs.Finite.{CellSorted}
+use Rattle.cb_join.specs.Joins.{Rising}
 use Rattle.cb_unify.specs.State.{Seen, Reads, FitsTable, value_of}
 
 -- variables and cells were added, and values were ruled out: all else stays
@@ -46,3 +54,35 @@ IsBuilt new zs frame tree r = (t : Sorts) (a w : Bits) (g : Reading) (v : Valuat
 pub record HasSlot (s : Seen) (r x : ℕ) : Type 0 where
   pub there : x < length s.store.slots
   pub bit : (w : Bits) (g : Reading) → CellsHold w s.heap.cells g → g r ≡ Bit (w x)
+
+-- so many Boolean variables were added, each with a slot and a level
+pub record AddsVariables (old new : Seen) (n : ℕ) : Type 0 where
+  pub constants : new.store.constants ≡ old.store.constants
+  pub budget : new.store.nodes.budget ≡ old.store.nodes.budget
+  pub drawn : new.store.drawn ≡ old.store.drawn + n
+  pub free : length new.store.free ≡ length old.store.free + n
+  pub slots : length new.store.slots ≡ length old.store.slots + n
+
+-- new variables of these sorts, with what is added to the store
+pub record AreMade (old new : Seen) (zs : List Sort) (frame : List ℕ) : Type 0 where
+  pub opened : IsOpened old new zs frame
+  pub there : (k r : ℕ) → slice_get frame k ≡ Some r → r < length new.heap.sorts
+  pub adds : AddsVariables old new (bools zs)
+  pub fits : (t : Sorts) → FitsTable t old → FitsTable t new
+
+-- What a store has for a new cell of which nothing is known but its sort. Whatever value of the sort the cell is to have,
+-- each pair of the range goes on to one at which the cell can have it, and the old slots keep their bits.
+pub record IsUnknown (old new : Booleans) (z : Sort) (c : Cell) : Type 0 where
+  pub addable : (n : ℕ) → IsAddable n c
+  pub sort : sort_of c ≡ z
+  pub sorted : (t : Sorts) (ss : List Sort) (r : ℕ) → slice_get ss r ≡ Some z → CellSorted t ss r (stored_as c)
+  pub rise : (k : ℕ) (cs : List Stored) → Rising (length old.slots) k cs → Rising (length new.slots) k (cs ++ stored_as c ∷ [])
+  pub lose : (a w : Bits) → InRange (view_of new) a w → InRange (view_of old) a w × ((y : ℕ) → y < length old.slots → slot_bits (view_of new) a w y ≡ slot_bits (view_of old) a w y)
+  pub gain : (t : Sorts) (a w : Bits) → InRange (view_of old) a w → (v : Ground) → Fits t z v →
+      (w' : Bits) × InRange (view_of new) a w' × ((y : ℕ) → y < length old.slots → slot_bits (view_of new) a w' y ≡ slot_bits (view_of old) a w y)
+      × ((g : Reading) (r : ℕ) → g r ≡ v → CellHolds (slot_bits (view_of new) a w') g r (stored_as c))
+  pub constants : new.constants ≡ old.constants
+  pub budget : new.nodes.budget ≡ old.nodes.budget
+  pub drawn : new.drawn ≡ old.drawn + bools (z ∷ [])
+  pub free : length new.free ≡ length old.free + bools (z ∷ [])
+  pub slots : length new.slots ≡ length old.slots + bools (z ∷ [])

@@ -1,16 +1,15 @@
 -- What contracts see of terms over a store of Boolean variables: which valuations belong to them.
-use Rattle.std.specs.Prelude.{◌≡◌, ◌↔◌, ℕ, suc, ◌<◌, ◌≤◌, List, [], ◌∷◌, length, Some, slice_get}
+use Rattle.std.specs.Prelude.{◌≡◌, ◌↔◌, ℕ, ◌<◌, ◌≤◌, List, [], length, Some, slice_get}
 use Rattle.cb_model.specs.declared.Sort.{Sort}
 use Rattle.cb_model.specs.declared.Sort.TheVariants as sort
 use Rattle.cb_model.specs.Bits.{Bits, Each}
 use Rattle.cb_model.specs.Values.{Ground, Bit, Word, Sorts, Valuation}
 use Rattle.cb_boole.specs.View.{InRange}
 use Rattle.cb_elim.specs.Store.{Seen as Booleans, IsStore, empty, slot_bits, view_of, with_fulls as store_fulls}
-use Rattle.cb_heap.specs.declared.Stored.{Stored}
-use Rattle.cb_heap.specs.declared.Stored.TheVariants as cell
 use Rattle.cb_heap.specs.Heap.{Terms, IsHeap, no_terms}
 use Rattle.cb_heap.specs.Reading.{Reading, IsReading, Agree}
 use Rattle.cb_heap.specs.Finite.{AllFinite, IsSorted}
+use Rattle.cb_join.specs.Joins.{Rising}
 
 -- the terms, the Boolean variables, and the variables that were made, in order, each by its cell
 pub record Seen : Type 0 where
@@ -42,18 +41,12 @@ Gives s g b = (n r : ℕ) (z : Sort) → slice_get s.made n ≡ Some r → slice
 abbrev pub InVals : Sorts → Seen → Bits → Valuation → Type 0
 InVals t s a b = (w : Bits) × (g : Reading) × Reads t s a w g × Gives s g b
 
--- the slots of the leaves rise along the cells, from k on, and are below n
-abbrev pub SlotsRise : ℕ → ℕ → List Stored → Type 0
-SlotsRise n k [] = k ≤ n
-SlotsRise n k (cell.Leaf x ∷ cs) = (k ≤ x) × SlotsRise n (suc x) cs
-SlotsRise n k (_ ∷ cs) = SlotsRise n k cs
-
 -- what holds of a state at every call
 pub record IsState (s : Seen) : Type 0 where
   pub store : IsStore s.store
   pub heap : IsHeap s.heap
   pub finite : AllFinite s.heap.cells
-  pub rise : SlotsRise (length s.store.slots) 0 s.heap.cells
+  pub rise : Rising (length s.store.slots) 0 s.heap.cells
   pub made : Each (λ r. r < length s.heap.cells) s.made
 
 -- the names of all terms have the arguments that the table says

@@ -16,10 +16,13 @@ ghost use Rattle.cb_unify.specs.Growth.{HasSlot};
 ghost use Rattle.cb_unify.specs.Lending.{LendsOps, LendsStore};
 ghost use Rattle.cb_unify.specs.Laws.{OpsAreLent, StoreIsLent};
 
+mod fresh;
+
 use cb_dd::Node;
 use cb_elim::{Slot, Store, StoreMark};
 use cb_heap::{Cell, Heap, HeapMark, Ref};
 use cb_ops::Ops;
+pub use fresh::Frame;
 use std::alloc::{AllocError, Global};
 use std::marker::Model;
 
