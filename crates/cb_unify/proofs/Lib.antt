@@ -5,3 +5,4 @@ pub mod Slots
 pub mod Opened
 pub mod Making
 mod Inside
+pub mod Solving

@@ -3,3 +3,4 @@ pub mod Moments
 pub mod Growth
 pub mod Lending
 pub mod Laws
+pub mod Solve

@@ -17,10 +17,12 @@ ghost use Rattle.cb_unify.specs.Lending.{LendsOps, LendsStore};
 ghost use Rattle.cb_unify.specs.Laws.{OpsAreLent, StoreIsLent};
 
 mod fresh;
+mod solve;
 
 use cb_dd::Node;
 use cb_elim::{Slot, Store, StoreMark};
 use cb_heap::{Cell, Heap, HeapMark, Ref};
+use cb_join::Search;
 use cb_ops::Ops;
 pub use fresh::Frame;
 use std::alloc::{AllocError, Global};
@@ -32,14 +34,20 @@ pub struct State {
     store: Store,
     heap: Heap,
     made: Vec<usize>,
+    // What the search for cycles uses, and a number of cells of which none names a later one.
+    search: Search,
+    settled: usize,
 }
 
 impl Model for State {
     ghost use Rattle.cb_unify.specs.State.{Seen};
+    ghost use Rattle.cb_unify.specs.Solve.{IsSettled};
 
     ghost Value = { Seen };
 
     ghost view = { λ s. record { heap = s.heap; store = s.store; made = s.made.items } };
+
+    ghost invariant = { λ s. IsSettled s.settled s.heap.cells };
 }
 
 /// A moment of a state, to which `undo` goes back.
@@ -71,6 +79,8 @@ impl State {
             store,
             heap: Heap::new(alloc),
             made: Vec::new(alloc),
+            search: Search::new(alloc),
+            settled: 0,
         })
     }
 
@@ -100,6 +110,7 @@ impl State {
         self.heap.undo(to.heap);
         self.store.undo(to.store);
         self.made.truncate(to.made);
+        self.settled = self.heap.len();
     }
 
     /// The store of the Boolean variables. Who borrows it leaves the constants, the budget, the free levels with their

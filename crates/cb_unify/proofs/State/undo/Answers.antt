@@ -1,3 +1,4 @@
+use Rattle.cb_unify.proofs.Solving.{settled-now}
 use Rattle.cb_unify.proofs.Inside.{seen}
 use Rattle.cb_unify.proofs.Back.{keeps-back, undo-is}
 use Rattle.cb_unify.specs.Moments.{Moment}
@@ -10,3 +11,6 @@ returns-clause-reverted c =
 
 pub returns-clause-moments : goal.returns-clause-moments
 returns-clause-moments c = λ s is e k. keeps-back s c.args.self.now _ c.args.to (returns-clause-reverted c) is e k
+
+pub invariant_of-self : goal.invariant_of-self
+invariant_of-self c = settled-now c.len-self-inside.result c.undo.new.self c.undo.ensures.heap c.len-self-inside.ensures.number

@@ -1,0 +1,28 @@
+use Rattle.std.proofs.Common.{◌∙◌, ap, Ok}
+use Rattle.cb_unify.proofs.Inside.{seen}
+use Rattle.cb_unify.proofs.Solving.{settled-now, solved-rewritten, solved-state, back-moments, back-state, heap-back, no-err}
+use Rattle.cb_unify.proofs.State.solve.Goals as goal
+
+pub invariant_of-self : goal.invariant_of-self
+invariant_of-self c =
+    settled-now c.len-self-inside.result c.attempt-solved.new.heap c.attempt-solved.ensures.heap c.len-self-inside.ensures.number
+
+pub returns-in-Ok-true-clause-rewritten : goal.returns-in-Ok-true-clause-rewritten
+returns-in-Ok-true-clause-rewritten c _ =
+    solved-rewritten c.args.self.now (seen c.self.inside) c.self.view_is c.requires.state c.attempt-solved.new.heap c.attempt-solved.new.store c.attempt-solved.ensures.sorts c.attempt-solved.ensures.heap (c.attempt-solved.ensures.leaves (c.in-Ok-true.is ∙ ap Ok c.in-Ok-true.field-0-test)).0 (c.attempt-solved.ensures.leaves (c.in-Ok-true.is ∙ ap Ok c.in-Ok-true.field-0-test)).1 (c.attempt-solved.ensures.values (c.in-Ok-true.is ∙ ap Ok c.in-Ok-true.field-0-test))
+
+pub returns-in-Ok-true-clause-state : goal.returns-in-Ok-true-clause-state
+returns-in-Ok-true-clause-state c =
+    solved-state c.args.self.now (seen c.self.inside) c.self.view_is c.requires.state c.attempt-solved.new.heap c.attempt-solved.new.store c.attempt-solved.ensures.sorts c.attempt-solved.ensures.heap (c.attempt-solved.ensures.leaves (c.in-Ok-true.is ∙ ap Ok c.in-Ok-true.field-0-test)).0 (c.attempt-solved.ensures.leaves (c.in-Ok-true.is ∙ ap Ok c.in-Ok-true.field-0-test)).1 (c.attempt-solved.ensures.values (c.in-Ok-true.is ∙ ap Ok c.in-Ok-true.field-0-test)) c.attempt-solved.ensures.store (c.attempt-solved.ensures.finite (c.in-Ok-true.is ∙ ap Ok c.in-Ok-true.field-0-test))
+
+pub returns-in-Err-clause-moments : goal.returns-in-Err-clause-moments
+returns-in-Err-clause-moments c =
+    back-moments c.args.self.now (seen c.self.inside) c.self.view_is c.requires.state c.undo-in-Err.new.self c.attempt-solved.new.store
+    (c.undo-in-Err.ensures.back c.self.inside.heap (heap-back c.args.self.now (seen c.self.inside) c.self.view_is c.requires.state) c.mark-before.ensures.moment c.attempt-solved.ensures.kept.0)
+    (c.attempt-solved.ensures.as_before (no-err c.attempt-solved.result c.in-Err.stop c.in-Err.is))
+
+pub returns-in-Err-clause-state : goal.returns-in-Err-clause-state
+returns-in-Err-clause-state c =
+    back-state c.args.self.now (seen c.self.inside) c.self.view_is c.requires.state c.undo-in-Err.new.self c.attempt-solved.new.store
+    (c.undo-in-Err.ensures.back c.self.inside.heap (heap-back c.args.self.now (seen c.self.inside) c.self.view_is c.requires.state) c.mark-before.ensures.moment c.attempt-solved.ensures.kept.0)
+    (c.attempt-solved.ensures.as_before (no-err c.attempt-solved.result c.in-Err.stop c.in-Err.is))
