@@ -10,7 +10,7 @@ use Rattle.cb_model.specs.Written.{AreClauses}
 use Rattle.cb_model.specs.Grammar.{FormClause, Whole, Lexed, Syntax, Unfinished, Deep, IsReading, ReadsClause}
 use Rattle.cb_model.specs.Loading.{is_fact}
 use Rattle.cb_model.specs.Directives as dir
-use Rattle.cb_model.specs.Directives.{Refusal, BadDirective, SortClash, Unknown}
+use Rattle.cb_model.specs.Directives.{Declared, Refusal, BadDirective, SortClash, Unknown}
 use Rattle.cb_model.specs.Refusals.{Refused, file_too_long}
 use Rattle.cb_model.specs.Outside.{bytes_named}
 use Rattle.cb_model.specs.Output.{sort_refused}
@@ -25,10 +25,18 @@ use Rattle.cb_host.specs.Host as host
 use Rattle.cb_host.specs.Host.{IfTold, HasLength}
 use Rattle.cb_host.specs.declared.Load.TheVariants as load
 use Rattle.cb_sorts.specs.Source.{Source, Loads}
-use Rattle.cb_lines.specs.Refusals.{read_refused, load_refused, placed_in}
+use Rattle.cb_lines.specs.Refusals.{read_refused, load_refused, circuit_refused, placed_in}
 use Rattle.cb_lines.specs.declared.refusals.Whose.TheVariants as whose
-use Rattle.cb_accept.specs.Refusals.{AreAccepted, ClausesRefused, directive, rule, IsRead, FileRefused, unread}
-use Rattle.cb_accept.specs.File.{IsTold, IsLong}
+use Rattle.cb_model.specs.Facts as facts
+use Rattle.cb_model.specs.Facts.{Circuits, FactRefusal, FactsRead, no_circuits}
+use Rattle.cb_model.specs.Output as output
+use Rattle.cb_model.specs.Output.{IsLoaded, FileRefused, unread, fact_refused}
+use Rattle.cb_circuits.specs.declared.reading.CircError.{CircError}
+use Rattle.cb_circuits.specs.declared.reading.CircError.TheVariants as circuit
+use Rattle.cb_circuits.specs.Refused.{RefusesFacts}
+use Rattle.cb_accept.specs.Refusals.{AreAccepted, ClausesRefused, directive, rule, a_fact, IsRead}
+use Rattle.cb_accept.specs.declared.Accepted.{Accepted}
+use Rattle.cb_accept.specs.File.{forms, holds, IsAccepted, IsTold, IsLong}
 
 pub some-none : {A : Type 0} (x : A) → Some x ≡ None → ⊥
 some-none x e = true≢false (ap is_some e)
@@ -92,6 +100,26 @@ unloaded-refused cs (fault.Unknown n) r (inr w) t = same_refused cs (Unknown, n)
 unloaded-refused cs (fault.Twice n) r (inr w) t = same_refused cs (dir.Twice, n) r t (rule w.0 (dir.Twice, n) w.1 w.2)
 unloaded-refused cs fault.Memory r h t = absurd (cc)
 
+-- facts that are not accepted are refused
+a-fact-refused : (cs : List FormClause) (d : Declared) (k : FactRefusal) (n : ℕ) (r : Refused) → AreAccepted cs d → (c : Circuits) × FactsRead no_circuits cs (Some (k, n)) c →
+    Some r ≡ Some (fact_refused (k, n)) → ClausesRefused cs r
+a-fact-refused cs d k n r a f t = let e : fact_refused (k, n) ≡ r = cc in subst (ClausesRefused cs) e (a_fact d (k, n) f.0 a f.1)
+
+pub unconnected-refused : (cs : List FormClause) (d : Declared) (e : CircError) (r : Refused) → AreAccepted cs d → RefusesFacts cs e → Some r ≡ placed_in whose.File (circuit_refused e) → ClausesRefused cs r
+unconnected-refused cs d (circuit.Twice n) r a h t = a-fact-refused cs d facts.Twice n r a h t
+unconnected-refused cs d (circuit.Pins n) r a h t = a-fact-refused cs d facts.Pins n r a h t
+unconnected-refused cs d (circuit.Driven n) r a h t = a-fact-refused cs d facts.Driven n r a h t
+unconnected-refused cs d (circuit.Cycle n) r a h t = a-fact-refused cs d facts.Cycle n r a h t
+unconnected-refused cs d (circuit.Part n) r a h t = a-fact-refused cs d facts.Part n r a h t
+unconnected-refused cs d (circuit.Large n) r a h t = a-fact-refused cs d facts.Large n r a h t
+unconnected-refused cs d circuit.Memory r a h t = absurd (cc)
+
+-- the first refusal of the clauses of a file is the file's
+pub clauses-refused : (file : Text) (cs : List FormClause) (r : Refused) → IsRead file cs → ClausesRefused cs r → FileRefused file r
+clauses-refused file cs r i (directive e h) = output.directive cs e i.short i.reading h refl
+clauses-refused file cs r i (rule d e h k) = output.rule cs d e i.short i.reading h k refl
+clauses-refused file cs r i (a_fact d e c a f) = output.a_fact cs d e c i.short i.reading a.declares a.rules f refl
+
 -- what a program says of its clauses
 pub accepted-of : (cs : List FormClause) (s : Source) → Loads cs s → AreAccepted cs s.declared
 accepted-of cs s l = record { declares = l.declares; rules = l.rules }
@@ -100,3 +128,9 @@ accepted-of cs s l = record { declares = l.declares; rules = l.rules }
 pub or-else : {A E : Type 0} (P : A → Type 0) (Q R : E → Type 0) (r : Result A E) → ((e : E) → Q e → R e) → MatchResult r P Q → MatchResult r P R
 or-else P Q R (Ok a) f h = h
 or-else P Q R (Err e) f h = f e h
+
+-- an accepted file is loaded by the definition
+pub accepted-loaded : (a : Accepted) → IsAccepted a → IsLoaded a.text.now (holds a)
+accepted-loaded a i =
+    let l = accepted-of (forms a) a.program i.loads in
+    record { short = i.read.short; reading = i.read.reading; declares = l.declares; rules = l.rules; facts = i.facts }

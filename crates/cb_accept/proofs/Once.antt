@@ -1,5 +1,5 @@
 -- A file is refused or accepted, and not both; its clauses are one list.
-use Rattle.std.proofs.Common.{◌≡◌, ◌⊎◌, ℕ, zero, suc, ◌<◌, Bool, true, false, MatchBool, List, [], ◌∷◌, drop, get_or, Option, Some, None, All, sym, ap, subst, ◌∙◌, inl, inr, arith}
+use Rattle.std.proofs.Common.{◌≡◌, ◌⊎◌, ℕ, zero, suc, ◌<◌, Bool, true, false, ◌||◌, MatchBool, List, [], ◌∷◌, drop, get_or, Option, Some, None, All, refl, sym, ap, subst, ◌∙◌, inl, inr, arith}
 use Rattle.std.specs.List.{list_any}
 use Rattle.std.proofs.lemmas.List.{take-append-drop}
 use Rattle.std.proofs.lemmas.Bool.{true≢false}
@@ -10,11 +10,12 @@ use Rattle.cb_model.specs.Directives.{Sign, Declared, Refusal, Checked, Twice, U
 use Rattle.cb_model.specs.Sorts.{Body, Clash}
 use Rattle.cb_model.specs.Loading.{is_fact, is_taken, goal_unknown, body_of, module_names, BodyRefusal, RulesRefusal, none, skip, directive, passes, refused}
 use Rattle.cb_model.specs.Refusals.{Refused}
-use Rattle.cb_model.specs.Output.{Loaded, IsLoaded, reading_refused}
+use Rattle.cb_model.specs.Facts.{FactRefusal, FactsRead, no_circuits, no_facts, no_fact}
+use Rattle.cb_model.specs.Output as output
+use Rattle.cb_model.specs.Output.{Loaded, IsLoaded, FileRefused, reading_refused}
 use Rattle.cb_lex.proofs.OneList.{one_list}
 use Rattle.cb_laws.proofs.OneReading.{clauses_are_one}
-use Rattle.cb_accept.specs.Refusals as built
-use Rattle.cb_accept.specs.Refusals.{FileRefused, ClausesRefused, IsRead}
+use Rattle.cb_laws.proofs.OneFacts.{facts-are-one}
 
 -- ---- the reading
 
@@ -91,20 +92,42 @@ rules-not {d} {hs} {ms} (passes {f = x} {gs = gs} f b h) (refused {r = r} g c) =
 abbrev no_error : Option (Refusal × ℕ)
 no_error = None
 
-clauses-not : (l : Loaded) (r : Refused) → directives l.clauses ≡ record { refusal = None; declared = l.declared } → RulesRefusal l.declared (heads l.clauses) (module_names l.clauses) l.clauses None →
-    ClausesRefused l.clauses r → ⊥
-clauses-not l r d k (built.directive e h) = absurd (let p : no_error ≡ Some e = sym (ap (λ (x : Checked). x.refusal) d) ∙ h in cc)
-clauses-not l r d k (built.rule x e h n) =
-    let same : x ≡ l.declared = ap (λ (x : Checked). x.declared) (sym h ∙ d) in
-    rules-not k (subst (λ (x : Declared). RulesRefusal x (heads l.clauses) (module_names l.clauses) l.clauses (Some e)) same n)
+abbrev no_fault : Option (FactRefusal × ℕ)
+no_fault = None
+
+-- clauses that are accepted have no refusal
+directives-not : (l : Loaded) (e : Refusal × ℕ) → directives l.clauses ≡ record { refusal = None; declared = l.declared } → (directives l.clauses).refusal ≡ Some e → ⊥
+directives-not l e d h = let p : no_error ≡ Some e = sym (ap (λ (x : Checked). x.refusal) d) ∙ h in cc
+
+-- what is said of the clauses of one reading holds of those of the other
+over : (file : Text) (cs : List FormClause) (l : Loaded) (P : List FormClause → Type 0) → IsReading ReadsClause file (Whole cs) → IsLoaded file l → P cs → P l.clauses
+over file cs l P r i h = subst P (clauses-one file cs l.clauses r i.reading) h
+
+-- the directives of accepted clauses declare one thing
+declared-one : (l : Loaded) (d : Declared) → directives l.clauses ≡ record { refusal = None; declared = l.declared } → directives l.clauses ≡ record { refusal = None; declared = d } → d ≡ l.declared
+declared-one l d e h = ap (λ (x : Checked). x.declared) (sym h ∙ e)
 
 -- a refused file isn't accepted
 pub refused-not-loaded : (file : Text) (r : Refused) → FileRefused file r → (l : Loaded) → IsLoaded file l → ⊥
-refused-not-loaded file r (built.long h) l i = let s = i.short in absurd (omega arith)
-refused-not-loaded file r (built.unread x s h e) l i = no-fault file l.clauses x r (is-whole file l.clauses i.reading) h e
-refused-not-loaded file r (built.unsorted cs j h) l i =
-    clauses-not l r i.declares i.rules (subst (λ bs. ClausesRefused bs r) (clauses-one file cs l.clauses j.reading i.reading) h)
+refused-not-loaded file r (output.long h) l i = let s = i.short in absurd (omega arith)
+refused-not-loaded file r (output.unread x s h e) l i = no-fault file l.clauses x r (is-whole file l.clauses i.reading) h e
+refused-not-loaded file r (output.directive cs e s h k p) l i = directives-not l e i.declares (over file cs l (λ xs. (directives xs).refusal ≡ Some e) h i k)
+refused-not-loaded file r (output.rule cs d e s h k n p) l i =
+    let same = declared-one l d i.declares (over file cs l (λ xs. directives xs ≡ record { refusal = None; declared = d }) h i k) in
+    rules-not i.rules
+    (subst (λ x. RulesRefusal x (heads l.clauses) (module_names l.clauses) l.clauses (Some e)) same (over file cs l (λ xs. RulesRefusal d (heads xs) (module_names xs) xs (Some e)) h i n))
+refused-not-loaded file r (output.a_fact cs d e c s h k n f p) l i =
+    let q : no_fault ≡ Some e = (facts-are-one i.facts (over file cs l (λ xs. FactsRead no_circuits xs (Some e) c) h i f)).0 in cc
 
 -- a file with facts isn't one without
-pub facts-not-loaded : (file : Text) (cs : List FormClause) → IsRead file cs → list_any is_fact cs ≡ true → (l : Loaded) → IsLoaded file l → list_any is_fact l.clauses ≡ false → ⊥
-facts-not-loaded file cs j t l i n = true≢false (sym t ∙ ap (list_any is_fact) (clauses-one file cs l.clauses j.reading i.reading) ∙ n)
+pub facts-not-loaded : (file : Text) (k : Loaded) → IsLoaded file k → list_any is_fact k.clauses ≡ true → (l : Loaded) → IsLoaded file l → list_any is_fact l.clauses ≡ false → ⊥
+facts-not-loaded file k j t l i n = true≢false (sym t ∙ ap (list_any is_fact) (clauses-one file k.clauses l.clauses j.reading i.reading) ∙ n)
+
+-- clauses without facts have no circuits
+pub read_none : (cs : List FormClause) → list_any is_fact cs ≡ false → FactsRead no_circuits cs None no_circuits
+read_none [] h = no_facts
+read_none (c ∷ cs) h = step (is_fact c) refl h (read_none cs)
+  where
+    step : (b : Bool) → is_fact c ≡ b → (b || list_any is_fact cs) ≡ false → (list_any is_fact cs ≡ false → FactsRead no_circuits cs None no_circuits) → FactsRead no_circuits (c ∷ cs) None no_circuits
+    step true e k rest = absurd (cc)
+    step false e k rest = no_fact e (rest k)

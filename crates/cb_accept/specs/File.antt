@@ -1,9 +1,11 @@
 -- An accepted file, and the bytes that were loaded of one.
-use Rattle.std.specs.Prelude.{◌≡◌, ℕ, ◌<◌, ◌≤◌, List, map, length, Option, Some}
+use Rattle.std.specs.Prelude.{◌≡◌, ℕ, ◌<◌, ◌≤◌, List, map, length, Option, Some, None}
 use Rattle.cb_model.specs.Text.{Text}
 use Rattle.cb_model.specs.Forms.{clause_form}
 use Rattle.cb_model.specs.Written.{AreClauses}
 use Rattle.cb_model.specs.Grammar.{FormClause}
+use Rattle.cb_model.specs.Facts.{FactsRead, no_circuits}
+use Rattle.cb_model.specs.Output.{Loaded}
 use Rattle.cb_model.specs.Outside.{bytes_named}
 use Rattle.cb_model.specs.Refusals.{Refused, file_too_long}
 use Rattle.cb_sorts.specs.Source.{Loads}
@@ -14,11 +16,16 @@ use Rattle.cb_accept.specs.declared.Accepted.{Accepted}
 abbrev pub forms : Accepted → List FormClause
 forms a = map clause_form a.clauses.items
 
--- these are the bytes, the clauses and the program of an accepted file
+-- what an accepted file holds
+abbrev pub holds : Accepted → Loaded
+holds a = record { clauses = forms a; declared = a.program.declared; circuits = a.circuits }
+
+-- these are the bytes, the clauses, the program and the circuits of an accepted file
 pub record IsAccepted (a : Accepted) : Type 0 where
   pub read : IsRead a.text.now (forms a)
   pub written : AreClauses 4194304 (forms a)
   pub loads : Loads (forms a) a.program
+  pub facts : FactsRead no_circuits (forms a) None a.circuits
 
 -- where files are told, these are the bytes of the one of the name
 abbrev pub IsTold : Option (List (Text × Text)) → Text → Text → Type 0

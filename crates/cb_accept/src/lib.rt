@@ -9,14 +9,17 @@ ghost use Rattle.cb_model.specs.Loading.{is_fact};
 ghost use Rattle.cb_model.specs.Faults.{Counted};
 ghost use Rattle.cb_model.specs.Written.{AreClauses};
 ghost use Rattle.cb_lines.specs.Ends.{EndsBy};
-ghost use Rattle.cb_accept.specs.Refusals.{FileRefused, ClausesRefused};
+ghost use Rattle.cb_model.specs.Output.{FileRefused};
+ghost use Rattle.cb_sorts.specs.Source.{Loads};
+ghost use Rattle.cb_accept.specs.Refusals.{ClausesRefused};
 ghost use Rattle.cb_accept.specs.File.{forms, IsAccepted, IsLoaded, IsLong};
 
+use cb_circuits::{Circuits, read_circuits};
 use cb_host::{Files, Load};
 use cb_known::is_fact;
 use cb_lines::ended::{Ended, Line};
 use cb_lines::lines;
-use cb_lines::refusals::{Whose, unloaded, unread};
+use cb_lines::refusals::{Whose, unconnected, unloaded, unread};
 use cb_model::RawClause;
 use cb_sorts::{Program, load};
 use cb_syntax::read_clauses;
@@ -25,7 +28,7 @@ use std::alloc::Global;
 /// The most bytes of a file.
 pub const FILE_LIMIT: u64 = 4194304;
 
-/// A file that is accepted: none of its tokens, clauses, directives and rules is refused.
+/// A file that is accepted: none of its tokens, clauses, directives, rules and facts of circuits is refused.
 #[derive(Drop)]
 pub struct Accepted<'s> {
     /// Its bytes.
@@ -34,6 +37,8 @@ pub struct Accepted<'s> {
     pub clauses: Vec<RawClause<'s>>,
     /// The program of its rules.
     pub program: Program<'s>,
+    /// The modules and specifications of its facts.
+    pub circuits: Circuits<'s>,
 }
 
 impl Accepted<'_> {
@@ -71,7 +76,7 @@ pub fn load_file<F: Files>(alloc: Global, name: &str, files: &mut F) -> Result<V
 }
 
 /// Reads the bytes of a file and accepts it, or gives its first refusal: of its tokens, its grammar, its directives, its
-/// rules.
+/// rules, its facts of circuits.
 pub fn accept(alloc: Global, text: &[u8]) -> Result<Accepted<'_>, Ended>
     requires { length text.now ≤ 4194304 }
     ensures accepted { MatchResult result IsAccepted (EndsBy (FileRefused text.now) ⊥) }
@@ -96,17 +101,46 @@ fn of_clauses<'s>(
     ensures text { IfOk result (λ a. a.text.now ≡ text.now) }
 {
     match load(alloc, clauses.as_slice()) {
-        Ok(program) => Ok(Accepted {
-            text,
-            clauses,
-            program,
-        }),
+        Ok(program) => with_circuits(alloc, text, clauses, program),
         Err(error) => {
             let_go(clauses);
             Err(unloaded(alloc, Whose::File, error))
         }
     }
 }
+
+// The accepted file of these clauses, whose directives and rules are accepted, or the first refusal among its facts of
+// circuits.
+fn with_circuits<'s>(
+    alloc: Global,
+    text: &'s [u8],
+    clauses: Vec<RawClause<'s>>,
+    program: Program<'s>,
+) -> Result<Accepted<'s>, Ended>
+    requires short { length text.now ≤ 4194304 }
+    requires reading { IsReading ReadsClause text.now (Whole (map clause_form clauses.items)) }
+    requires written { AreClauses 4194304 (map clause_form clauses.items) }
+    requires loads { Loads (map clause_form clauses.items) program }
+    ensures accepted { MatchResult result IsAccepted (EndsBy (ClausesRefused (map clause_form clauses.entry.items)) ⊥) }
+    ensures text { IfOk result (λ a. a.text.now ≡ text.now) }
+{
+    match read_circuits(alloc, clauses.as_slice()) {
+        Ok(circuits) => Ok(Accepted {
+            text,
+            clauses,
+            program,
+            circuits,
+        }),
+        Err(error) => {
+            let_go(clauses);
+            let_program_go(program);
+            Err(unconnected(alloc, error))
+        }
+    }
+}
+
+// Lets a program go.
+fn let_program_go(_program: Program<'_>) {}
 
 // Lets clauses go.
 fn let_go(_clauses: Vec<RawClause<'_>>) {}

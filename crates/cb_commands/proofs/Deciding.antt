@@ -16,7 +16,7 @@ use Rattle.cb_model.specs.Commands.{Nodes, Max, Only, budget_of}
 use Rattle.cb_model.specs.Refusals.{refusal_line, unbuilt}
 use Rattle.cb_model.specs.Verdicts.{differs_text, agrees, differs, stopped}
 use Rattle.cb_model.specs.Room.{room_v, circuit_pins, instance_pins, expr_size}
-use Rattle.cb_model.specs.Output.{BelowNodes, IsLoaded, checked_text}
+use Rattle.cb_model.specs.Output.{BelowNodes, checked_text}
 use Rattle.cb_circ.specs.FirstForm.{PairSpec, FirstForm, facts_of, pair_exprs}
 use Rattle.cb_circ.specs.declared.first.First.{First}
 use Rattle.cb_circ.specs.First.{IsFirstForm, IsNotFirstForm}
@@ -27,28 +27,18 @@ use Rattle.cb_lines.specs.Ends.{IsSaid}
 use Rattle.cb_lines.specs.declared.lines.TheConstants.{STOPPED_NODES}
 use Rattle.cb_sorts.specs.Source.{Loads}
 use Rattle.cb_accept.specs.declared.Accepted.{Accepted}
-use Rattle.cb_accept.specs.File.{IsAccepted, forms}
-use Rattle.cb_accept.specs.Refusals.{without_circuits}
+use Rattle.cb_accept.specs.File.{holds}
 use Rattle.cb_commands.specs.Counts.{is_counted}
-use Rattle.cb_commands.specs.Says.{CheckSays, with_facts, checked, VerifySays, not_first, compared, flat_room}
+use Rattle.cb_commands.specs.Says.{CheckSays, VerifySays, not_first, compared, flat_room}
 use Rattle.cb_commands.specs.Answers.{VerdictSays, FitsPorts}
-use Rattle.cb_commands.proofs.Counts.{read_none, checked_says}
+use Rattle.cb_commands.proofs.Counts.{checked_says}
 
 -- ---- `check`
 
--- the text of a file with facts
-pub check-unbuilt : (file : Text) (cs : List FormClause) (text : Text) (o : Outcome) → list_any is_fact cs ≡ true → text ≡ lines_text (refusal_line unbuilt ∷ []) → o ≡ outcome.Refused 99 → IsSaid (CheckSays file cs) text o
-check-unbuilt file cs text o h t e = record { lines = refusal_line unbuilt ∷ []; says = with_facts h (refl, e); is = t }
-
--- the text of one without
-pub check-counts : (a : Accepted) (text : Text) (n : ℕ) → IsAccepted a → list_any is_fact (forms a) ≡ false → n ≡ count_by (λ c. is_counted (clause_form c)) a.clauses.items →
-    text ≡ lines_text ((codes "checked: " ++ decimal n ++ codes " clauses, " ++ decimal 0 ++ codes " modules") ∷ []) → IsSaid (CheckSays a.text.now (forms a)) text outcome.Done
-check-counts a text n i h e t =
-    let l = without_circuits (forms a) a.program.declared in
-    let r = i.read in
-    let p = i.loads in
-    let loaded : IsLoaded a.text.now l = record { short = r.short; reading = r.reading; declares = p.declares; rules = p.rules; facts = read_none (forms a) h } in
-    record { lines = checked_text l ∷ []; says = checked l h refl loaded refl refl; is = checked_says text a.clauses.items n e t a.program.declared }
+-- the text of an accepted file
+pub check-counts : (a : Accepted) (text : Text) (n m : ℕ) → n ≡ count_by (λ c. is_counted (clause_form c)) a.clauses.items → m ≡ length a.circuits.modules →
+    text ≡ lines_text ((codes "checked: " ++ decimal n ++ codes " clauses, " ++ decimal m ++ codes " modules") ∷ []) → IsSaid (CheckSays (holds a)) text outcome.Done
+check-counts a text n m e f t = record { lines = checked_text (holds a) ∷ []; says = (refl, refl); is = checked_says text a.clauses.items n m (holds a) e f refl t }
 
 -- ---- `verify`
 

@@ -8,11 +8,11 @@ use Rattle.cb_model.specs.Commands.{Nodes, Max, Only, IsNumber}
 use Rattle.cb_model.specs.Refusals.{Refused, Refuses, unbuilt}
 use Rattle.cb_model.specs.Verdicts.{Compared, agrees, differs, stopped}
 use Rattle.cb_model.specs.Grammar.{FormClause}
-use Rattle.cb_model.specs.Output.{BelowNodes}
+use Rattle.cb_model.specs.Output.{BelowNodes, Loaded}
 use Rattle.cb_circ.specs.FirstForm.{pair_exprs}
 use Rattle.cb_lines.specs.Ends.{IsDecided}
 use Rattle.cb_lines.proofs.Outcomes.{Facts, refusal-facts, NotUsage}
-use Rattle.cb_commands.specs.Says.{CheckSays, with_facts, checked, VerifySays, not_first, compared, flat_room}
+use Rattle.cb_commands.specs.Says.{CheckSays, VerifySays, not_first, compared, flat_room}
 
 compared-facts : (names ok : Text) (ports : List Text) (c : Circuit) (Wanted : List _ → List _ → Type 0) (few : Type 0) (lines : List Text) (o : Outcome) →
     Compared names ok ports c Wanted few lines o → Facts few o
@@ -31,10 +31,9 @@ verify-facts cs name nodes lines o (compared m s f h) =
     let q = compared-facts _ _ _ _ _ _ lines o h in record { ends = q.ends; other = q.other; stops = λ p. below-number nodes (flat_room m (pair_exprs s)) (q.stops p) }
 
 -- `check` never stops
-pub check-facts : (file : Text) (cs : List FormClause) (lines : List Text) (o : Outcome) → CheckSays file cs lines o → Facts ⊥ o
-check-facts file cs lines o (with_facts a h) = refusal-facts unbuilt lines o (λ (p : 99 ≡ 19). omega arith) h
-check-facts file cs lines o (checked l a b i t e) = record {
-  ends = subst IsDecided (sym e) tt;
-  other = λ p. let q : outcome.Done ≡ outcome.Refused 19 = sym e ∙ p in absurd (cc);
-  stops = λ p. let q : outcome.Done ≡ outcome.Stopped = sym e ∙ p in absurd (cc);
+pub check-facts : (l : Loaded) (lines : List Text) (o : Outcome) → CheckSays l lines o → Facts ⊥ o
+check-facts l lines o h = record {
+  ends = subst IsDecided (sym h.1) tt;
+  other = λ p. let q : outcome.Done ≡ outcome.Refused 19 = sym h.1 ∙ p in absurd (cc);
+  stops = λ p. let q : outcome.Done ≡ outcome.Stopped = sym h.1 ∙ p in absurd (cc);
 }

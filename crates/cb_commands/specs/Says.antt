@@ -1,5 +1,4 @@
--- What is built so far of what `check` and `verify` print: `check` on files without facts of circuits, and `verify` on files
--- whose facts are in the first form.
+-- What `check` prints, and what is built so far of what `verify` prints: on files whose facts are in the first form.
 use Rattle.std.specs.Prelude.{◌≡◌, ℕ, ◌+◌, true, false, List, [], ◌∷◌, map, sum, length, codes}
 use Rattle.std.specs.List.{list_any}
 use Rattle.cb_model.specs.declared.Expr.{Expr}
@@ -22,10 +21,9 @@ flat_room m es =
     let c = circuit_of (flat [] m) in
     room_v (circuit_pins c + instance_pins m) (sum (map expr_size es)) (length c.outputs) c.inputs
 
--- the lines and the outcome of `check` over an accepted file: of one without facts it says what it says in the end
-pub data CheckSays (file : Text) (cs : List FormClause) (lines : List Text) (outcome : Outcome) : Type 0 where
-  with_facts : list_any is_fact cs ≡ true → Refuses unbuilt lines outcome → CheckSays file cs lines outcome
-  checked : (l : Loaded) → list_any is_fact cs ≡ false → l.clauses ≡ cs → IsLoaded file l → lines ≡ checked_text l ∷ [] → outcome ≡ result.Done → CheckSays file cs lines outcome
+-- the lines and the outcome of `check` over an accepted file
+abbrev pub CheckSays : Loaded → List Text → Outcome → Type 0
+CheckSays l lines outcome = (lines ≡ checked_text l ∷ []) × (outcome ≡ result.Done)
 
 -- the lines and the outcome of `verify` over the clauses of an accepted file; it may stop for nodes where their number
 -- is below the bound

@@ -10,7 +10,7 @@ ghost use Rattle.cb_model.specs.Written.{AreClauses};
 ghost use Rattle.cb_lines.specs.Ends.{IsDecided, IsRefusal, Finishes, Tells, line_bytes};
 ghost use Rattle.cb_lines.specs.Words.{nodes_view};
 ghost use Rattle.cb_lines.specs.declared.lines.TheConstants.{STOPPED_NODES};
-ghost use Rattle.cb_accept.specs.File.{forms, IsAccepted};
+ghost use Rattle.cb_accept.specs.File.{forms, holds, IsAccepted};
 ghost use Rattle.cb_commands.specs.Counts.{is_counted};
 ghost use Rattle.cb_commands.specs.Says.{CheckSays, VerifySays};
 ghost use Rattle.cb_commands.specs.Answers.{Says, VerdictSays, FitsPorts};
@@ -30,7 +30,7 @@ use std::alloc::{AllocError, Global};
 /// `check`: prints how many clauses and modules an accepted file has.
 pub fn check<O: Sink>(alloc: Global, file: &Accepted<'_>, out: &mut O) -> Outcome
     requires { IsAccepted file.now }
-    ensures says { Tells (CheckSays file.now.text.now (forms file.now)) (O.written out.old) (O.written out.new) result }
+    ensures says { Tells (CheckSays (holds file.now)) (O.written out.old) (O.written out.new) result }
     ensures faults { Counted (result ≡ Outcome.Fault Side.Output) (O.faults out.old) (O.faults out.new) }
 {
     match checked(alloc, file) {
@@ -117,12 +117,10 @@ fn rule_count(clauses: &[RawClause<'_>]) -> usize
 // What `check` says.
 fn checked(alloc: Global, file: &Accepted<'_>) -> Result<Answer, AllocError>
     requires { IsAccepted file.now }
-    ensures { IfOk result (Says (CheckSays file.now.text.now (forms file.now))) }
+    ensures { IfOk result (Says (CheckSays (holds file.now))) }
 {
-    if file.has_facts() {
-        return Ok(Answer::unbuilt());
-    }
-    let line = lines::checked_line(alloc, rule_count(file.clauses.as_slice()), 0)?;
+    let clauses = rule_count(file.clauses.as_slice());
+    let line = lines::checked_line(alloc, clauses, file.circuits.modules() as usize)?;
     Ok(Answer {
         line: Line::Made(line),
         outcome: Outcome::Done,

@@ -10,7 +10,9 @@ use Rattle.cb_model.specs.Grammar.{Reading, Whole, Lexed, Syntax, Unfinished, De
 use Rattle.cb_model.specs.Directives as dir
 use Rattle.cb_model.specs.Directives.{Refusal, BadDirective, SortClash, Unknown}
 use Rattle.cb_model.specs.Refusals.{Refused, Refuses}
-use Rattle.cb_model.specs.Output.{reading_refused, sort_refused}
+use Rattle.cb_model.specs.Facts as fact
+use Rattle.cb_model.specs.Facts.{FactRefusal}
+use Rattle.cb_model.specs.Output.{reading_refused, sort_refused, fact_refused}
 use Rattle.cb_lines.specs.Ends.{IsDecided}
 
 -- a refusal for another cause than the words
@@ -59,3 +61,12 @@ sort-number (BadDirective, n) = λ (p : 7 ≡ 19). omega arith
 sort-number (SortClash, n) = λ (p : 8 ≡ 19). omega arith
 sort-number (Unknown, n) = λ (p : 9 ≡ 19). omega arith
 sort-number (dir.Twice, n) = λ (p : 10 ≡ 19). omega arith
+
+-- that of a fact of circuits
+pub fact-number : (e : FactRefusal × ℕ) → (fact_refused e).number ≡ 19 → ⊥
+fact-number (fact.Twice, n) = λ (p : 10 ≡ 19). omega arith
+fact-number (fact.Pins, n) = λ (p : 11 ≡ 19). omega arith
+fact-number (fact.Driven, n) = λ (p : 12 ≡ 19). omega arith
+fact-number (fact.Cycle, n) = λ (p : 13 ≡ 19). omega arith
+fact-number (fact.Part, n) = λ (p : 14 ≡ 19). omega arith
+fact-number (fact.Large, n) = λ (p : 15 ≡ 19). omega arith

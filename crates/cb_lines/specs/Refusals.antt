@@ -2,9 +2,12 @@
 use Rattle.std.specs.Prelude.{Option, Some, None, [], ◌++◌, codes}
 use Rattle.cb_model.specs.Text.{Text}
 use Rattle.cb_model.specs.Refusals.{Refused, refused, at_byte, at_line}
-use Rattle.cb_model.specs.Output.{fault_refused, sort_refused}
+use Rattle.cb_model.specs.Output.{fault_refused, sort_refused, fact_refused}
 use Rattle.cb_model.specs.Directives as dir
 use Rattle.cb_model.specs.Directives.{BadDirective, SortClash, Unknown}
+use Rattle.cb_model.specs.Facts as fact
+use Rattle.cb_circuits.specs.declared.reading.CircError.{CircError}
+use Rattle.cb_circuits.specs.declared.reading.CircError.TheVariants as circuit
 use Rattle.cb_directives.specs.declared.fault.LoadError.{LoadError}
 use Rattle.cb_directives.specs.declared.fault.LoadError.TheVariants as load
 use Rattle.cb_lex.specs.Faults.{fault_of}
@@ -50,3 +53,13 @@ load_refused (load.SortClash n) = Some (sort_refused (SortClash, n))
 load_refused (load.Unknown n) = Some (sort_refused (Unknown, n))
 load_refused (load.Twice n) = Some (sort_refused (dir.Twice, n))
 load_refused load.Memory = None
+
+-- the refusal of a fact of circuits; want of memory is none
+abbrev pub circuit_refused : CircError → Option Refused
+circuit_refused (circuit.Twice n) = Some (fact_refused (fact.Twice, n))
+circuit_refused (circuit.Pins n) = Some (fact_refused (fact.Pins, n))
+circuit_refused (circuit.Driven n) = Some (fact_refused (fact.Driven, n))
+circuit_refused (circuit.Cycle n) = Some (fact_refused (fact.Cycle, n))
+circuit_refused (circuit.Part n) = Some (fact_refused (fact.Part, n))
+circuit_refused (circuit.Large n) = Some (fact_refused (fact.Large, n))
+circuit_refused circuit.Memory = None

@@ -6,9 +6,10 @@ ghost use Rattle.cb_model.specs.Output.{fault_refused};
 ghost use Rattle.cb_model.specs.Refusals.{refusal_line};
 ghost use Rattle.cb_lex.specs.Faults.{fault_of};
 ghost use Rattle.cb_lines.specs.Ends.{EndsBy};
-ghost use Rattle.cb_lines.specs.Refusals.{whose_text, place_text, refusal_view, placed_in, read_refused, load_refused};
+ghost use Rattle.cb_lines.specs.Refusals.{whose_text, place_text, refusal_view, placed_in, read_refused, load_refused, circuit_refused};
 
 use crate::ended::{Ended, Line};
+use cb_circuits::CircError;
 use cb_directives::LoadError;
 use cb_lex::LexError;
 use cb_syntax::ReadError;
@@ -129,6 +130,21 @@ fn of_sorts(whose: Whose, error: LoadError) -> Result<Refusal, AllocError>
     }
 }
 
+// The refusal of a fact of circuits; want of memory is none.
+fn of_circuits(error: CircError) -> Result<Refusal, AllocError>
+    ensures { IfOk result (λ r. Some (refusal_view r) ≡ placed_in Whose.File (circuit_refused error)) }
+{
+    match error {
+        CircError::Twice(line) => Ok(at_line(10, Whose::File, line, b"declared twice")),
+        CircError::Pins(line) => Ok(at_line(11, Whose::File, line, b"bad pins")),
+        CircError::Driven(line) => Ok(at_line(12, Whose::File, line, b"net not driven once")),
+        CircError::Cycle(line) => Ok(at_line(13, Whose::File, line, b"cycle in a module")),
+        CircError::Part(line) => Ok(at_line(14, Whose::File, line, b"unknown part")),
+        CircError::Large(line) => Ok(at_line(15, Whose::File, line, b"circuit too large")),
+        CircError::Memory => Err(AllocError),
+    }
+}
+
 /// How the run ends where a text is not read.
 pub fn unread(alloc: Global, whose: Whose, error: ReadError) -> Ended
     ensures { EndsBy (λ r. Some r ≡ placed_in whose (read_refused error)) ⊥ result }
@@ -144,6 +160,16 @@ pub fn unloaded(alloc: Global, whose: Whose, error: LoadError) -> Ended
     ensures { EndsBy (λ r. Some r ≡ placed_in whose (load_refused error)) ⊥ result }
 {
     match of_sorts(whose, error) {
+        Ok(refusal) => refused(alloc, &refusal),
+        Err(_) => Ended::Memory,
+    }
+}
+
+/// How the run ends where a fact of circuits of the file is refused.
+pub fn unconnected(alloc: Global, error: CircError) -> Ended
+    ensures { EndsBy (λ r. Some r ≡ placed_in Whose.File (circuit_refused error)) ⊥ result }
+{
+    match of_circuits(error) {
         Ok(refusal) => refused(alloc, &refusal),
         Err(_) => Ended::Memory,
     }

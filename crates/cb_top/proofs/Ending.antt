@@ -13,7 +13,7 @@ use Rattle.cb_model.specs.Commands.{Command, Check, Run, Verify, Same, Make, Nod
 use Rattle.cb_model.specs.Refusals.{Refused, Refuses, refusal_line, usage, unbuilt}
 use Rattle.cb_model.specs.Outside.{Wrote, bytes_named}
 use Rattle.cb_model.specs.Faults.{Counted}
-use Rattle.cb_model.specs.Output.{Loaded}
+use Rattle.cb_model.specs.Output.{Loaded, IsLoaded, FileRefused, long}
 use Rattle.cb_lines.specs.declared.ended.Ended.{Ended}
 use Rattle.cb_lines.specs.declared.ended.Ended.TheVariants as ended
 use Rattle.cb_lines.specs.declared.lines.TheConstants.{USAGE, UNBUILT}
@@ -21,17 +21,16 @@ use Rattle.cb_lines.specs.Ends as ends
 use Rattle.cb_lines.specs.Ends.{IsDecided, Finishes, EndsBy, EndTold, Writes, whole, broken, wanting, IsSaid, BeginsSaying, Tells, Refusing}
 use Rattle.cb_lines.proofs.Outcomes.{no-fault}
 use Rattle.cb_lines.proofs.Writing.{map-writes, map-said, finish-tells, refusal-said, Ending, by_refusal, by_fault, by_want, ending, none_counted, one_counted}
-use Rattle.cb_accept.specs.Refusals.{FileRefused, long, IsRead, AreAccepted, without_circuits}
+use Rattle.cb_accept.specs.Refusals.{without_circuits}
 use Rattle.cb_accept.specs.declared.Accepted.{Accepted}
-use Rattle.cb_accept.specs.File.{forms, IsAccepted, IsTold, IsLong}
-use Rattle.cb_accept.proofs.Accepting.{some-none, accepted-of}
-use Rattle.cb_accept.proofs.Once.{refused-not-loaded, facts-not-loaded}
+use Rattle.cb_accept.specs.File.{holds, IsAccepted, IsTold, IsLong}
+use Rattle.cb_accept.proofs.Accepting.{some-none, accepted-loaded}
+use Rattle.cb_accept.proofs.Once.{read_none, refused-not-loaded, facts-not-loaded}
 use Rattle.cb_run.specs.Run as run
 use Rattle.cb_run.specs.Run.{Holds, RunSays}
 use Rattle.cb_run.specs.Running.{FileRun, with_facts, asked, ProgramRun, read, input_failed, input_wanting, InputBegins, nothing_yet, begins, so_far, InputDecides}
 use Rattle.cb_run.proofs.Outcomes.{input-side}
 use Rattle.cb_commands.specs.Says.{CheckSays, VerifySays}
-use Rattle.cb_commands.proofs.Counts.{read_none}
 use Rattle.cb_commands.proofs.Outcomes.{check-facts, verify-facts}
 use Rattle.cb_top.specs.Built as built
 use Rattle.cb_top.specs.Built.{Task, Checking, Running, Comparing, command_over, CommandSays, FileSays, Output, OutputBegins, TakesBy, bytes_or}
@@ -179,9 +178,9 @@ unbuilt-ran c k files told before after result e n g f =
 -- ---- over a file
 
 -- the clauses of an accepted file without facts
-holds-of : (file : Text) (cs : List FormClause) (d : Declared) → IsRead file cs → AreAccepted cs d → list_any is_fact cs ≡ false → Holds file cs (without_circuits cs d)
-holds-of file cs d i a h = record {
-  loaded = record { short = i.short; reading = i.reading; declares = a.declares; rules = a.rules; facts = read_none cs h };
+holds-of : (file : Text) (l : Loaded) → IsLoaded file l → list_any is_fact l.clauses ≡ false → Holds file l.clauses (without_circuits l.clauses l.declared)
+holds-of file l i h = record {
+  loaded = record { short = i.short; reading = i.reading; declares = i.declares; rules = i.rules; facts = read_none l.clauses h };
   clauses = refl;
   no_facts = h;
 }
@@ -220,46 +219,46 @@ ended-ran name task {files} {told} {before} {after} {result} F e h t = by_case (
     by_case (by_want p w) = memory-ran (Some (command_over name task)) (λ q. some-none (command_over name task) q) p w
 
 -- over one whose queries are run
-run-ran : (name file : Text) (resolutions : ℕ) (nodes : Nodes) (cs : List FormClause) (d : Declared) {files : Option (List (Text × Text))} {told left before after : Option Text} {result : Outcome} →
-    IsTold files name file → IsRead file cs → AreAccepted cs d → FileRun cs d resolutions nodes told left before after result → Ran (Some (Run name resolutions nodes)) files told left before after result
-run-ran name file resolutions nodes cs d {files} {told} {left} {before} {after} {result} ft i a (with_facts h e k) =
+run-ran : (name file : Text) (resolutions : ℕ) (nodes : Nodes) (l : Loaded) {files : Option (List (Text × Text))} {told left before after : Option Text} {result : Outcome} →
+    IsTold files name file → IsLoaded file l → FileRun l.clauses l.declared resolutions nodes told left before after result → Ran (Some (Run name resolutions nodes)) files told left before after result
+run-ran name file resolutions nodes l {files} {told} {left} {before} {after} {result} ft i (with_facts h e k) =
     tells-ran (Some (Run name resolutions nodes)) file (told_or told) (inl (λ q. some-none (Run name resolutions nodes) q)) ft (λ bytes p. ap told_or p)
-    (λ bytes p. inr ((λ l j. facts-not-loaded file cs i h l j.loaded j.no_facts), e ∙ p)) (λ lines o s. built.accepted cs d i a (run.with_facts h s)) k
-run-ran name file resolutions nodes cs d {files} {told} {left} {before} {after} {result} ft i a (asked h (read input k w)) =
-    written-ran (Some (Run name resolutions nodes)) file input (inl (λ q. some-none (Run name resolutions nodes) q)) ft k.is (λ bytes p. inl (without_circuits cs d, (holds-of file cs d i a h, k.taken bytes p)))
+    (λ bytes p. inr ((λ m j. facts-not-loaded file l i h m j.loaded j.no_facts), e ∙ p)) (λ lines o s. built.accepted l i (run.with_facts h s)) k
+run-ran name file resolutions nodes l {files} {told} {left} {before} {after} {result} ft i (asked h (read input k w)) =
+    written-ran (Some (Run name resolutions nodes)) file input (inl (λ q. some-none (Run name resolutions nodes) q)) ft k.is (λ bytes p. inl (without_circuits l.clauses l.declared, (holds-of file l i h, k.taken bytes p)))
     (map-writes decides begun w)
   where
-    decides : (t : Text) (o : Outcome) → InputDecides (without_circuits cs d) resolutions nodes input t o → Output (Some (Run name resolutions nodes)) file input t o
-    decides t o s = map-said (λ lines o2 q. built.accepted cs d i a (run.asked (without_circuits cs d) (holds-of file cs d i a h) q)) t o s
+    decides : (t : Text) (o : Outcome) → InputDecides (without_circuits l.clauses l.declared) resolutions nodes input t o → Output (Some (Run name resolutions nodes)) file input t o
+    decides t o s = map-said (λ lines o2 q. built.accepted l i (run.asked (without_circuits l.clauses l.declared) (holds-of file l i h) q)) t o s
 
-    begun : (t : Text) → InputBegins (without_circuits cs d) resolutions nodes input t → OutputBegins (Some (Run name resolutions nodes)) file input t
+    begun : (t : Text) → InputBegins (without_circuits l.clauses l.declared) resolutions nodes input t → OutputBegins (Some (Run name resolutions nodes)) file input t
     begun t (nothing_yet e) = built.nothing_yet e
     begun t (begins all o s p) = built.begins all o (decides all o s) p
-    begun t (so_far qs s b q) = built.so_far name resolutions nodes refl (record { l = without_circuits cs d; holds = holds-of file cs d i a h; qs = qs; accepted = s; boolean = b; begins = q })
-run-ran name file resolutions nodes cs d ft i a (asked h (input_failed e w)) =
+    begun t (so_far qs s b q) = built.so_far name resolutions nodes refl (record { l = without_circuits l.clauses l.declared; holds = holds-of file l i h; qs = qs; accepted = s; boolean = b; begins = q })
+run-ran name file resolutions nodes l ft i (asked h (input_failed e w)) =
     nothing-ran (Some (Run name resolutions nodes)) (λ q. some-none (Run name resolutions nodes) q) (λ x. subst IsDecided e x) (λ p. tt) w
-run-ran name file resolutions nodes cs d ft i a (asked h (input_wanting e w)) = memory-ran (Some (Run name resolutions nodes)) (λ q. some-none (Run name resolutions nodes) q) e w
+run-ran name file resolutions nodes l ft i (asked h (input_wanting e w)) = memory-ran (Some (Run name resolutions nodes)) (λ q. some-none (Run name resolutions nodes) q) e w
 
-task-ran : (name file : Text) (task : Task) (cs : List FormClause) (d : Declared) {files : Option (List (Text × Text))} {told left before after : Option Text} {result : Outcome} →
-    IsTold files name file → IsRead file cs → AreAccepted cs d → TaskRun task file cs d told left before after result → Ran (Some (command_over name task)) files told left before after result
-task-ran name file Checking cs d {told = told} ft i a h =
-    tells-ran (Some (Check name)) file (told_or told) (inl (λ q. some-none (Check name) q)) ft (λ bytes p. ap told_or p) (λ bytes p. h.0 ∙ p) (λ lines o s. built.accepted cs d i a s) h.1
-task-ran name file (Running resolutions nodes) cs d ft i a h = run-ran name file resolutions nodes cs d ft i a h
-task-ran name file (Comparing x nodes) cs d {told = told} ft i a h =
-    tells-ran (Some (Verify name x nodes)) file (told_or told) (inl (λ q. some-none (Verify name x nodes) q)) ft (λ bytes p. ap told_or p) (λ bytes p. h.0 ∙ p) (λ lines o s. built.accepted cs d i a s) h.1
+task-ran : (name file : Text) (task : Task) (l : Loaded) {files : Option (List (Text × Text))} {told left before after : Option Text} {result : Outcome} →
+    IsTold files name file → IsLoaded file l → TaskRun task l told left before after result → Ran (Some (command_over name task)) files told left before after result
+task-ran name file Checking l {told = told} ft i h =
+    tells-ran (Some (Check name)) file (told_or told) (inl (λ q. some-none (Check name) q)) ft (λ bytes p. ap told_or p) (λ bytes p. h.0 ∙ p) (λ lines o s. built.accepted l i s) h.1
+task-ran name file (Running resolutions nodes) l ft i h = run-ran name file resolutions nodes l ft i h
+task-ran name file (Comparing x nodes) l {told = told} ft i h =
+    tells-ran (Some (Verify name x nodes)) file (told_or told) (inl (λ q. some-none (Verify name x nodes) q)) ft (λ bytes p. ap told_or p) (λ bytes p. h.0 ∙ p) (λ lines o s. built.accepted l i s) h.1
 
 -- over any file that was loaded
 pub bytes-ran : (name file : Text) (task : Task) {files : Option (List (Text × Text))} {told left before after : Option Text} {result : Outcome} → IsTold files name file → BytesRun task file told left before after result →
     Ran (Some (command_over name task)) files told left before after result
 bytes-ran name file task ft (tasks.refused r h e k) = refused-ran name task file r ft h e k
-bytes-ran name file task ft (tasks.accepted cs d i a h) = task-ran name file task cs d ft i a h
+bytes-ran name file task ft (tasks.accepted l i h) = task-ran name file task l ft i h
 bytes-ran name file task ft (tasks.wanting e w) = memory-ran (Some (command_over name task)) (λ q. some-none (command_over name task) q) e w
 
 -- the bytes that were accepted
-pub accepted-bytes : (a : Accepted) (bytes : Text) (task : Task) {told left before after : Option Text} {result : Outcome} → a.text.now ≡ bytes → IsAccepted a → TaskRun task a.text.now (forms a) a.program.declared told left before after result →
+pub accepted-bytes : (a : Accepted) (bytes : Text) (task : Task) {told left before after : Option Text} {result : Outcome} → a.text.now ≡ bytes → IsAccepted a → TaskRun task (holds a) told left before after result →
     BytesRun task bytes told left before after result
 accepted-bytes a bytes task {told} {left} {before} {after} {result} e i h =
-    subst (λ t. BytesRun task t told left before after result) e (tasks.accepted (forms a) a.program.declared i.read (accepted-of (forms a) a.program i.loads) h)
+    subst (λ t. BytesRun task t told left before after result) e (tasks.accepted (holds a) (accepted-loaded a i) h)
 
 -- the bytes that were refused
 pub ended-bytes : (bytes : Text) (task : Task) (e : Ended) {told before after : Option Text} {result : Outcome} → EndsBy (FileRefused bytes) ⊥ e → EndTold e before after result → BytesRun task bytes told told before after result
@@ -275,8 +274,8 @@ ended-bytes bytes task e {told} {before} {after} {result} h t = by_case (ending 
 refusing-side : {before after : Option Text} {result : Outcome} (r : Refused) → Refusing r before after result → (s : Side) → (s ≡ side.Output → ⊥) → result ≡ outcome.Fault s → ⊥
 refusing-side r k = tells-side (λ lines o h. subst IsDecided (sym h.1) tt) k
 
-pub check-side : {file : Text} {cs : List FormClause} {before after : Option Text} {result : Outcome} → Tells (CheckSays file cs) before after result → (s : Side) → (s ≡ side.Output → ⊥) → result ≡ outcome.Fault s → ⊥
-check-side {file} {cs} k = tells-side (λ lines o h. (check-facts file cs lines o h).ends) k
+pub check-side : (l : Loaded) {before after : Option Text} {result : Outcome} → Tells (CheckSays l) before after result → (s : Side) → (s ≡ side.Output → ⊥) → result ≡ outcome.Fault s → ⊥
+check-side l k = tells-side (λ lines o h. (check-facts l lines o h).ends) k
 
 pub verify-side : {cs : List FormClause} {name : Text} {nodes : Nodes} {before after : Option Text} {result : Outcome} → Tells (VerifySays cs name nodes) before after result → (s : Side) → (s ≡ side.Output → ⊥) → result ≡ outcome.Fault s → ⊥
 verify-side {cs} {name} {nodes} k = tells-side (λ lines o h. (verify-facts cs name nodes lines o h).ends) k
@@ -290,9 +289,9 @@ run-file (asked h (input_wanting f w)) e = let q : outcome.Memory ≡ outcome.Fa
 -- how it ended over bytes that were loaded is no fault of the file
 pub bytes-file : (task : Task) (file : Text) {told left before after : Option Text} {result : Outcome} → BytesRun task file told left before after result → result ≡ outcome.Fault side.File → ⊥
 bytes-file task file (tasks.refused r h l k) e = refusing-side r k side.File (λ (p : side.File ≡ side.Output). absurd (cc)) e
-bytes-file Checking file (tasks.accepted cs d i a h) e = check-side h.1 side.File (λ (p : side.File ≡ side.Output). absurd (cc)) e
-bytes-file (Running r n) file (tasks.accepted cs d i a h) e = run-file h e
-bytes-file (Comparing x n) file (tasks.accepted cs d i a h) e = verify-side h.1 side.File (λ (p : side.File ≡ side.Output). absurd (cc)) e
+bytes-file Checking file (tasks.accepted l i h) e = check-side l h.1 side.File (λ (p : side.File ≡ side.Output). absurd (cc)) e
+bytes-file (Running r n) file (tasks.accepted l i h) e = run-file h e
+bytes-file (Comparing x n) file (tasks.accepted l i h) e = verify-side h.1 side.File (λ (p : side.File ≡ side.Output). absurd (cc)) e
 bytes-file task file (tasks.wanting f w) e = let q : outcome.Memory ≡ outcome.Fault side.File = sym f ∙ e in cc
 
 -- an end by a refusal is no fault but of the output

@@ -9,8 +9,9 @@ use Rattle.cb_model.specs.Grammar.{FormClause}
 use Rattle.cb_model.specs.Commands.{Command, Check, Run, Verify, Same, Make, IsNumber, Nodes}
 use Rattle.cb_model.specs.Refusals.{Refused, Refuses, usage, unbuilt}
 use Rattle.cb_lines.specs.Ends.{IsDecided, Finishes, all_written, cut_off, whole, broken, wanting, Tells}
-use Rattle.cb_lines.proofs.Outcomes.{Facts, NotUsage, refusal-facts, reading-number, sort-number, no-fault}
-use Rattle.cb_accept.specs.Refusals.{FileRefused, long, unread, unsorted, ClausesRefused, directive, rule}
+use Rattle.cb_lines.proofs.Outcomes.{Facts, NotUsage, refusal-facts, reading-number, sort-number, fact-number, no-fault}
+use Rattle.cb_model.specs.Output as output
+use Rattle.cb_model.specs.Output.{Loaded, FileRefused, long, unread}
 use Rattle.cb_accept.proofs.Accepting.{some-none}
 use Rattle.cb_commands.proofs.Outcomes.{check-facts, verify-facts}
 use Rattle.cb_run.specs.Run.{RunSays, with_facts, asked}
@@ -18,14 +19,12 @@ use Rattle.cb_run.proofs.Outcomes.{input-facts}
 use Rattle.cb_top.specs.Built.{Task, Checking, Running, Comparing, TaskSays, FileSays, refused, accepted, CommandSays}
 use Rattle.cb_top.specs.Top.{IsRun, MayStop}
 
-clauses-number : (cs : List FormClause) (r : Refused) → ClausesRefused cs r → r.number ≡ 19 → ⊥
-clauses-number cs r (directive e h) = sort-number e
-clauses-number cs r (rule d e h k) = sort-number e
-
 pub file-number : (file : Text) (r : Refused) → FileRefused file r → r.number ≡ 19 → ⊥
 file-number file r (long h) = λ (p : 20 ≡ 19). omega arith
 file-number file r (unread x s h e) = reading-number x r e
-file-number file r (unsorted cs i h) = clauses-number cs r h
+file-number file r (output.directive cs e s h k p) = λ q. sort-number e (ap (λ (x : Refused). x.number) (sym p) ∙ q)
+file-number file r (output.rule cs d e s h k n p) = λ q. sort-number e (ap (λ (x : Refused). x.number) (sym p) ∙ q)
+file-number file r (output.a_fact cs d e c s h k n f p) = λ q. fact-number e (ap (λ (x : Refused). x.number) (sym p) ∙ q)
 
 -- the task runs queries, or its budget of nodes is a number
 abbrev pub TaskStops : Task → Type 0
@@ -37,14 +36,14 @@ run-facts : (file : Text) (cs : List FormClause) (resolutions : ℕ) (nodes : No
 run-facts file cs resolutions nodes input lines o (with_facts a h) = refusal-facts unbuilt lines o (λ (p : 99 ≡ 19). omega arith) h
 run-facts file cs resolutions nodes input lines o (asked l i h) = input-facts l resolutions nodes input lines o h
 
-task-facts : (task : Task) (file input : Text) (cs : List FormClause) (lines : List Text) (o : Outcome) → TaskSays task file input cs lines o → Facts (TaskStops task) o
-task-facts Checking file input cs lines o h = check-facts file cs lines o h
-task-facts (Running resolutions nodes) file input cs lines o h = run-facts file cs resolutions nodes input lines o h
-task-facts (Comparing name nodes) file input cs lines o h = verify-facts cs name nodes lines o h
+task-facts : (task : Task) (file input : Text) (l : Loaded) (lines : List Text) (o : Outcome) → TaskSays task file input l lines o → Facts (TaskStops task) o
+task-facts Checking file input l lines o h = check-facts l lines o h
+task-facts (Running resolutions nodes) file input l lines o h = run-facts file l.clauses resolutions nodes input lines o h
+task-facts (Comparing name nodes) file input l lines o h = verify-facts l.clauses name nodes lines o h
 
 file-facts : (task : Task) (file input : Text) (lines : List Text) (o : Outcome) → FileSays task file input lines o → Facts (TaskStops task) o
 file-facts task file input lines o (refused r t h) = refusal-facts r lines o (file-number file r t) h
-file-facts task file input lines o (accepted cs d i a h) = task-facts task file input cs lines o h
+file-facts task file input lines o (accepted l i h) = task-facts task file input l lines o h
 
 -- what an output says of its outcome
 pub record HasOutcome (c : Option Command) (o : Outcome) : Type 0 where

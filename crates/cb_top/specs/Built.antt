@@ -1,16 +1,13 @@
--- What is built so far of what the program prints: `check` on files without facts of circuits, `run` on such files over
+-- What is built so far of what the program prints: `check` on all files, `run` on files without facts of circuits over
 -- queries of Boolean equations, and `verify` on files whose facts are in the first form.
 use Rattle.std.specs.Prelude.{◌≡◌, ◌⊎◌, ℕ, List, [], Option, Some, None}
 use Rattle.cb_model.specs.declared.Outcome.{Outcome}
 use Rattle.cb_model.specs.Text.{Text, IsPrefix}
-use Rattle.cb_model.specs.Grammar.{FormClause}
-use Rattle.cb_model.specs.Directives.{Declared}
 use Rattle.cb_model.specs.Commands.{Command, Check, Run, Verify, Same, Make, Nodes}
 use Rattle.cb_model.specs.Refusals.{Refused, Refuses, usage, unbuilt}
-use Rattle.cb_model.specs.Output.{Loaded, ReadWhole}
+use Rattle.cb_model.specs.Output.{Loaded, IsLoaded, FileRefused, ReadWhole}
 use Rattle.cb_model.specs.Outside.{bytes_named}
 use Rattle.cb_lines.specs.Ends.{IsSaid}
-use Rattle.cb_accept.specs.Refusals.{FileRefused, IsRead, AreAccepted}
 use Rattle.cb_commands.specs.Says.{CheckSays, VerifySays}
 use Rattle.cb_run.specs.Run.{Holds, RunSays, Asking}
 
@@ -27,15 +24,15 @@ command_over file (Running resolutions nodes) = Run file resolutions nodes
 command_over file (Comparing name nodes) = Verify file name nodes
 
 -- the lines and the outcome of a task over an accepted file and the input
-abbrev pub TaskSays : Task → Text → Text → List FormClause → List Text → Outcome → Type 0
-TaskSays Checking file input cs lines outcome = CheckSays file cs lines outcome
-TaskSays (Running resolutions nodes) file input cs lines outcome = RunSays file cs resolutions nodes input lines outcome
-TaskSays (Comparing name nodes) file input cs lines outcome = VerifySays cs name nodes lines outcome
+abbrev pub TaskSays : Task → Text → Text → Loaded → List Text → Outcome → Type 0
+TaskSays Checking file input l lines outcome = CheckSays l lines outcome
+TaskSays (Running resolutions nodes) file input l lines outcome = RunSays file l.clauses resolutions nodes input lines outcome
+TaskSays (Comparing name nodes) file input l lines outcome = VerifySays l.clauses name nodes lines outcome
 
 -- the same over any file
 pub data FileSays (task : Task) (file input : Text) (lines : List Text) (outcome : Outcome) : Type 0 where
   refused : (r : Refused) → FileRefused file r → Refuses r lines outcome → FileSays task file input lines outcome
-  accepted : (cs : List FormClause) (d : Declared) → IsRead file cs → AreAccepted cs d → TaskSays task file input cs lines outcome → FileSays task file input lines outcome
+  accepted : (l : Loaded) → IsLoaded file l → TaskSays task file input l lines outcome → FileSays task file input lines outcome
 
 -- what a command says over the bytes of its file and of the input
 abbrev pub CommandSays : Option Command → Text → Text → List Text → Outcome → Type 0

@@ -3,13 +3,11 @@ use Rattle.std.specs.Prelude.{◌≡◌, List, [], Option}
 use Rattle.cb_model.specs.declared.Outcome.{Outcome}
 use Rattle.cb_model.specs.declared.Outcome.TheVariants as outcome
 use Rattle.cb_model.specs.Text.{Text}
-use Rattle.cb_model.specs.Grammar.{FormClause}
-use Rattle.cb_model.specs.Directives.{Declared}
 use Rattle.cb_model.specs.Refusals.{Refused}
 use Rattle.cb_model.specs.Outside.{Wrote}
 use Rattle.cb_lines.specs.Ends.{Tells, Refusing}
 use Rattle.cb_lines.specs.Words.{nodes_view}
-use Rattle.cb_accept.specs.Refusals.{FileRefused, IsRead, AreAccepted}
+use Rattle.cb_model.specs.Output.{Loaded, IsLoaded, FileRefused}
 use Rattle.cb_commands.specs.Says.{CheckSays, VerifySays}
 use Rattle.cb_run.specs.Running.{FileRun}
 use Rattle.cb_top.specs.Built.{Task, Checking, Running, Comparing}
@@ -28,13 +26,13 @@ ReadsInput (Running resolutions nodes) = Unit {0}
 ReadsInput _ = ⊥
 
 -- what is written for a task over an accepted file, and what is left of the input
-abbrev pub TaskRun : Task → Text → List FormClause → Declared → Option Text → Option Text → Option Text → Option Text → Outcome → Type 0
-TaskRun Checking file cs d told left before after result = (left ≡ told) × Tells (CheckSays file cs) before after result
-TaskRun (Running resolutions nodes) file cs d told left before after result = FileRun cs d resolutions nodes told left before after result
-TaskRun (Comparing name nodes) file cs d told left before after result = (left ≡ told) × Tells (VerifySays cs name nodes) before after result
+abbrev pub TaskRun : Task → Loaded → Option Text → Option Text → Option Text → Option Text → Outcome → Type 0
+TaskRun Checking l told left before after result = (left ≡ told) × Tells (CheckSays l) before after result
+TaskRun (Running resolutions nodes) l told left before after result = FileRun l.clauses l.declared resolutions nodes told left before after result
+TaskRun (Comparing name nodes) l told left before after result = (left ≡ told) × Tells (VerifySays l.clauses name nodes) before after result
 
 -- the same over the bytes of any file: its refusal is written; or the task's text is; or memory was wanting
 pub data BytesRun (task : Task) (file : Text) (told left before after : Option Text) (result : Outcome) : Type 0 where
   refused : (r : Refused) → FileRefused file r → left ≡ told → Refusing r before after result → BytesRun task file told left before after result
-  accepted : (cs : List FormClause) (d : Declared) → IsRead file cs → AreAccepted cs d → TaskRun task file cs d told left before after result → BytesRun task file told left before after result
+  accepted : (l : Loaded) → IsLoaded file l → TaskRun task l told left before after result → BytesRun task file told left before after result
   wanting : result ≡ outcome.Memory → Wrote before after [] → BytesRun task file told left before after result

@@ -7,7 +7,7 @@ ghost use Rattle.cb_model.specs.Commands.{command_of};
 ghost use Rattle.cb_model.specs.Faults.{Counted};
 ghost use Rattle.cb_model.specs.Top.{HasUsage};
 ghost use Rattle.cb_lines.specs.Words.{command_view};
-ghost use Rattle.cb_accept.specs.File.{forms, IsAccepted};
+ghost use Rattle.cb_accept.specs.File.{holds, IsAccepted};
 ghost use Rattle.cb_top.specs.Built.{command_over};
 ghost use Rattle.cb_top.specs.Top.{Prints, IsRun, MayStop, Ran};
 ghost use Rattle.cb_top.specs.Tasks.{task_view, ReadsInput, TaskRun, BytesRun};
@@ -142,7 +142,7 @@ fn over_accepted<I: Source, O: Sink>(
     out: &mut O,
 ) -> Outcome
     requires { IsAccepted file.now }
-    ensures says { TaskRun (task_view task.entry) file.now.text.now (forms file.now) file.now.program.declared (I.left input.old) (I.left input.new) (O.written out.old) (O.written out.new) result }
+    ensures says { TaskRun (task_view task.entry) (holds file.now) (I.left input.old) (I.left input.new) (O.written out.old) (O.written out.new) result }
     ensures input_unread { (ReadsInput (task_view task.entry) → ⊥) → input.new ≡ input.old }
     ensures input_faults { Counted (result ≡ Outcome.Fault Side.Input) (I.faults input.old) (I.faults input.new) }
     ensures output_faults { Counted (result ≡ Outcome.Fault Side.Output) (O.faults out.old) (O.faults out.new) }

@@ -11,12 +11,8 @@ use Rattle.cb_accept.proofs.of_clauses.Goals as goal
 pub load-requires : goal.load-requires
 load-requires c = subst (λ (cs : List RawClause). AreClauses 4194304 (map clause_form cs)) (sym c.as_slice.ensures.value) c.requires.written
 
-pub returns-in-Ok-clause-accepted : goal.returns-in-Ok-clause-accepted
-returns-in-Ok-clause-accepted c = record {
-  read = record { short = c.requires.short; reading = c.requires.reading };
-  written = c.requires.written;
-  loads = subst (λ (cs : List RawClause). Loads (map clause_form cs) c.in-Ok.program) c.as_slice.ensures.value c.in-Ok.ensures;
-}
+pub with_circuits-requires-clause-loads : goal.with_circuits-requires-clause-loads
+with_circuits-requires-clause-loads c = subst (λ (cs : List RawClause). Loads (map clause_form cs) c.in-Ok.program) c.as_slice.ensures.value c.in-Ok.ensures
 
 pub returns-in-Err-clause-accepted : goal.returns-in-Err-clause-accepted
 returns-in-Err-clause-accepted c =

@@ -2,12 +2,12 @@ use Rattle.std.proofs.Common.{[], refl}
 use Rattle.cb_host.proofs.Writes.{Wrote-none}
 use Rattle.cb_lines.specs.Ends.{wanting, nothing_yet}
 use Rattle.cb_lines.proofs.Writing.{finish-tells}
-use Rattle.cb_accept.specs.File.{forms}
+use Rattle.cb_accept.specs.File.{holds}
 use Rattle.cb_commands.proofs.Outcomes.{check-facts}
 use Rattle.cb_commands.proofs.check.Goals as goal
 
 pub write-requires : goal.write-requires
-write-requires g c = let h = c.in-Ok.ensures in (check-facts c.args.file.now.text.now (forms c.args.file.now) h.lines c.in-Ok.answer.outcome h.says).ends
+write-requires g c = let h = c.in-Ok.ensures in (check-facts (holds c.args.file.now) h.lines c.in-Ok.answer.outcome h.says).ends
 
 pub returns-in-Ok-clause-says : goal.returns-in-Ok-clause-says
 returns-in-Ok-clause-says g c = finish-tells c.in-Ok.ensures c.write.ensures.written

@@ -4,7 +4,7 @@ use Rattle.cb_model.specs.declared.Side.TheVariants.{Input, Output}
 use Rattle.cb_lines.specs.Ends.{Tells}
 use Rattle.cb_lines.specs.Words.{nodes_view}
 use Rattle.cb_lines.proofs.Writing.{none_counted}
-use Rattle.cb_accept.specs.File.{forms}
+use Rattle.cb_accept.specs.File.{forms, holds}
 use Rattle.cb_commands.specs.Says.{VerifySays}
 use Rattle.cb_top.specs.declared.Task.{Task}
 use Rattle.cb_top.specs.Tasks.{TaskRun, task_view}
@@ -14,24 +14,24 @@ use Rattle.cb_top.proofs.over_accepted.Goals as goal
 pub returns-in-Check-clause-says : goal.returns-in-Check-clause-says
 returns-in-Check-clause-says g c =
     subst
-    (λ (t : Task). TaskRun (task_view t) c.args.file.now.text.now (forms c.args.file.now) c.args.file.now.program.declared (g.I.Source.left c.args.input.now) (g.I.Source.left c.args.input.now)
+    (λ (t : Task). TaskRun (task_view t) (holds c.args.file.now) (g.I.Source.left c.args.input.now) (g.I.Source.left c.args.input.now)
     (g.O.Sink.written c.args.out.now) (g.O.Sink.written c.check.new.out) c.check.result)
     (sym c.in-Check.is) (refl, c.check.ensures.says)
 
 pub returns-in-Check-clause-input_faults : goal.returns-in-Check-clause-input_faults
-returns-in-Check-clause-input_faults g c = none_counted _ _ (check-side c.check.ensures.says Input (λ (e : Input ≡ Output). absurd (cc))) refl
+returns-in-Check-clause-input_faults g c = none_counted _ _ (check-side (holds c.args.file.now) c.check.ensures.says Input (λ (e : Input ≡ Output). absurd (cc))) refl
 
 pub returns-in-Run-clause-says : goal.returns-in-Run-clause-says
 returns-in-Run-clause-says g c =
     subst
-    (λ (t : Task). TaskRun (task_view t) c.args.file.now.text.now (forms c.args.file.now) c.args.file.now.program.declared (g.I.Source.left c.args.input.now) (g.I.Source.left c.run.new.input)
+    (λ (t : Task). TaskRun (task_view t) (holds c.args.file.now) (g.I.Source.left c.args.input.now) (g.I.Source.left c.run.new.input)
     (g.O.Sink.written c.args.out.now) (g.O.Sink.written c.run.new.out) c.run.result)
     (sym c.in-Run.is) (c.run.ensures.says _)
 
 pub returns-in-Verify-clause-says : goal.returns-in-Verify-clause-says
 returns-in-Verify-clause-says g c =
     subst
-    (λ (t : Task). TaskRun (task_view t) c.args.file.now.text.now (forms c.args.file.now) c.args.file.now.program.declared (g.I.Source.left c.args.input.now) (g.I.Source.left c.args.input.now)
+    (λ (t : Task). TaskRun (task_view t) (holds c.args.file.now) (g.I.Source.left c.args.input.now) (g.I.Source.left c.args.input.now)
     (g.O.Sink.written c.args.out.now) (g.O.Sink.written c.verify.new.out) c.verify.result)
     (sym c.in-Verify.is) (
       refl,
