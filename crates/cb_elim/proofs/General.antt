@@ -9,6 +9,7 @@ use Rattle.cb_ops.specs.Ops.{Grows, StandsFor}
 use Rattle.cb_ops.specs.Substitute.{Images}
 use Rattle.cb_boole.specs.Elimination.{Function, rest, solved}
 use Rattle.cb_solution.specs.Solution.{IsSolution, HasRest}
+use Rattle.cb_solution.proofs.Lower.{solution-lower}
 use Rattle.cb_elim.specs.Store.{AreThere, value_in}
 use Rattle.cb_elim.specs.Equation.{AreGeneral, AreMoved, HasNoSolution, IsElimination, IsGeneral, differ}
 use Rattle.cb_elim.proofs.Views.{value-still}
@@ -40,6 +41,7 @@ module _ (s t u : Store) (st : Grows s t) (tu : Grows t u) (constants : ℕ) (f 
     rise = sol.rise;
     within = sol.within;
     nodes = sol.nodes;
+    lower = solution-lower t.triples u.triples e levels images el.falls sol;
     at = λ p. sol.at p ∙ ap (λ (h : Function). solved levels h p) equation;
   }
 

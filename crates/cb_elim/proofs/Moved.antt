@@ -14,7 +14,8 @@ use Rattle.cb_ops.specs.Ops.{DependsOn, Grows, IsFree, StandsFor}
 use Rattle.std.specs.Prelude.{Contains}
 use Rattle.std.proofs.lemmas.Map.Views.{Contains-from_any}
 use Rattle.cb_ops.specs.Support.{IsListed}
-use Rattle.cb_ops.specs.Substitute.{Images, AreNodes, SubstituteRoom, image_of, substituted}
+use Rattle.cb_ops.specs.Substitute.{Images, AreNodes, image_of, substituted}
+use Rattle.cb_ops.specs.Composed.{ComposedRoom}
 use Rattle.cb_ops.proofs.Ite.{Grows-same, Grows-then, put-other}
 use Rattle.cb_ops.proofs.Substitute.{substituted-grown}
 use Rattle.cb_solution.proofs.Solved.{at-none, cases-image, image-listed, listed-at, listed-here, only-from}
@@ -199,11 +200,11 @@ module _ (k c : ℕ) (images : Images) (at : List ℕ) (s t u : Store) (ns vs ws
       ∙ sym (value-read t.triples ns x (record { 0 = 0 }) less)
       ∙ value-still s t so.grows ns there x
 
-  pub rewrite-room : SubstituteRoom (get_or vs x (record { 0 = 0 })).0 images t u → MovedSo (k + 1) ns images s u
+  pub rewrite-room : ComposedRoom (get_or vs x (record { 0 = 0 })).0 images t u → MovedSo (k + 1) ns images s u
   rewrite-room room =
-      moved-one s t u so.grows images nodes ns there k x (record { 0 = 0 }) less (subst (λ (n : Node). SubstituteRoom n.0 images t u) same-at room) so.room
+      moved-one s t u so.grows images nodes ns there k x (record { 0 = 0 }) less (subst (λ (n : Node). ComposedRoom n.0 images t u) same-at room) so.room
 
-  pub rewrite-next : IsStepped t u images x vs ws mid new → AreWatched u.triples c ws new xs → SubstituteRoom (get_or vs x (record { 0 = 0 })).0 images t u → u.fulls ≡ t.fulls → RewriteSo (k + 1) c images at s u ns ws old new xs
+  pub rewrite-next : IsStepped t u images x vs ws mid new → AreWatched u.triples c ws new xs → ComposedRoom (get_or vs x (record { 0 = 0 })).0 images t u → u.fulls ≡ t.fulls → RewriteSo (k + 1) c images at s u ns ws old new xs
   rewrite-next step w room fulls = record {
     grows = Grows-then s t u so.grows tu;
     number = ap length step.slots ∙ length-set vs x step.value ∙ so.number;

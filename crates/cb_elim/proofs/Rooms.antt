@@ -1,9 +1,9 @@
 -- How many nodes an equation adds.
-use Rattle.std.proofs.Common.{◌≡◌, inl, inr, ℕ, zero, suc, ◌+◌, ◌-◌, ◌*◌, min, ◌<◌, ◌≤◌, ◌^◌, Bool, List, [], ◌∷◌, length, get_or, nat_eq, if◌then◌else◌, Result, Err, refl, sym, ap, ap₂, subst, ◌∙◌, arith}
+use Rattle.std.proofs.Common.{◌≡◌, inl, inr, ℕ, zero, suc, ◌+◌, ◌-◌, ◌*◌, min, ◌<◌, ◌≤◌, ◌^◌, Bool, true, false, cond, List, [], ◌∷◌, length, get_or, nat_eq, if◌then◌else◌, Result, Err, refl, sym, ap, ap₂, subst, ◌∙◌, arith}
 use Rattle.std.proofs.lemmas.Bool.{cases_Bool, eqb-true, true≢false}
 use Rattle.std.proofs.lemmas.Nat.{pow_pos}
 use Rattle.std.proofs.Math.Nat.{mul-le-mul_left, mul-le-mul_right}
-use Rattle.std.specs.List.{list_any}
+use Rattle.std.specs.List.{list_any, filter}
 use Rattle.cb_model.specs.Bits.{Bits, put, xor}
 use Rattle.cb_dd.specs.declared.Node.{Node}
 use Rattle.cb_dd.specs.declared.Triple.{Triple}
@@ -12,13 +12,14 @@ use Rattle.cb_dd.specs.declared.Stop.TheVariants.{Nodes, Memory}
 use Rattle.cb_dd.specs.Diagram.{Store, IsNode, function_of}
 use Rattle.cb_ops.specs.Ops.{Grows, StandsFor, Room, DependsOn}
 use Rattle.cb_ops.specs.Support.{IsListed}
-use Rattle.cb_ops.specs.Substitute.{Images, AreNodes, SubstituteRoom}
+use Rattle.cb_ops.specs.Substitute.{Images, AreNodes}
+use Rattle.cb_ops.specs.Composed.{ComposedRoom, is_replaced}
 use Rattle.cb_ops.proofs.Ite.{without, without-lt, grown-depends}
 use Rattle.cb_ops.proofs.Substitute.{image-node}
 use Rattle.cb_boole.specs.Elimination.{Function, DependsOnly, solved}
 use Rattle.cb_boole.proofs.Only.{solved_alike}
 use Rattle.cb_boole.proofs.Point.{put_other}
-use Rattle.cb_boole.proofs.Bounds.{four_next}
+use Rattle.cb_boole.proofs.Bounds.{below_pow, four_next}
 use Rattle.cb_solution.specs.Solution.{IsFalling, ImagesWithin, SolutionRoom, has_refused}
 use Rattle.cb_solution.proofs.Solved.{at-some, image-listed, listed-here, listed-there, listed-cases, only-from, only-into}
 use Rattle.cb_elim.specs.Store.{Seen, IsAsBefore, OnlyNodes, AreThere}
@@ -74,23 +75,32 @@ pub depend-still : (s t : Store) → Grows s t → (ns : List Node) → AreThere
 depend-still s t g [] w ls h = tt
 depend-still s t g (n ∷ ns) w ls h = (grown-depends s t g n.0 ls w.0 h.0, depend-still s t g ns w.1 ls h.1)
 
+-- no more pass than there are
+passing-le : (p : ℕ → Bool) (xs : List ℕ) → length (filter p xs) ≤ length xs
+passing-le p [] = omega arith
+passing-le p (x ∷ xs) = elim (p x) as (λ b. length (cond b (x ∷ filter p xs) (filter p xs)) ≤ length (x ∷ xs)) [
+  | true ↦ omega (arith, passing-le p xs)
+  | false ↦ omega (arith, passing-le p xs)
+]
+
 -- so many values were moved
 pub record MovedSo (k : ℕ) (ns : List Node) (images : Images) (old new : Store) : Type 0 where
-  pub most : (ls : List ℕ) → DependEach old.triples ns ls → ImagesWithin old.triples images ls → length new.triples ≤ length old.triples + k * (2 ^ length ls * 2 ^ length ls)
+  pub most : (ls : List ℕ) → DependEach old.triples ns ls → ImagesWithin old.triples images ls → length new.triples ≤ length old.triples + k * (length ls * (3 * 2 ^ length ls))
 
 pub moved-none : (ns : List Node) (images : Images) (s : Store) → MovedSo 0 ns images s s
 moved-none ns images s = record { most = λ ls d w. omega arith }
 
 pub moved-one : (s t u : Store) (st : Grows s t) (images : Images) (ws : AreNodes s.triples images) (ns : List Node) (there : AreThere s.triples ns) (k x : ℕ) (d : Node) → x < length ns →
-    SubstituteRoom (get_or ns x d).0 images t u → MovedSo k ns images s t → MovedSo (k + 1) ns images s u
+    ComposedRoom (get_or ns x d).0 images t u → MovedSo k ns images s t → MovedSo (k + 1) ns images s u
 moved-one s t u st images ws ns there k x d h room before = record {
   most = λ ls depend within.
       let b = before.most ls depend within in
-      let r = room.most ls ls (record {
+      let r = room.most ls (record {
         depends = grown-depends s t st (get_or ns x d).0 ls (node-of s.triples ns d x there h) (depend-at s.triples ns d x ls depend h);
         covers = λ l w e. w;
         images = λ l m e. grown-depends s t st m.0 ls (image-node s.triples images l m ws e) (within.each l m e);
       }) in
+      let few : length (filter (is_replaced images) ls) * (3 * 2 ^ length ls) ≤ length ls * (3 * 2 ^ length ls) = mul-le-mul_right (3 * 2 ^ length ls) (passing-le (is_replaced images) ls) in
       omega arith;
 }
 
@@ -98,22 +108,25 @@ pub moved-all : (k : ℕ) (ns : List Node) (images : Images) (s t : Store) → k
 moved-all k ns images s t h m = record {
   most = λ ls d w.
       let b = m.most ls d w in
-      let r : k * (2 ^ length ls * 2 ^ length ls) ≤ length ns * (2 ^ length ls * 2 ^ length ls) = mul-le-mul_right (2 ^ length ls * 2 ^ length ls) h in
+      let r : k * (length ls * (3 * 2 ^ length ls)) ≤ length ns * (length ls * (3 * 2 ^ length ls)) = mul-le-mul_right (length ls * (3 * 2 ^ length ls)) h in
       omega arith;
 }
 
 -- ---- the whole
 
-room-sum : (x w k n : ℕ) → 0 < x → k ≤ w → 2 * x + k * (5 * x + x * x) + n * (x * x) + 1 ≤ 64 * (n + w + 1) * (4 * (x * x))
-room-sum x w k n pos less =
+room-sum : (x w k n : ℕ) → w < x → k ≤ w → 2 * x + k * (5 * x + x * x) + n * (w * (3 * x)) + 1 ≤ 64 * (n + w + 1) * (4 * (x * x))
+room-sum x w k n short less =
+    let pos : 0 < x = omega (arith, short) in
+    let c : w * (3 * x) ≤ x * (3 * x) = mul-le-mul_right (3 * x) (omega (arith, short)) in
+    let d : n * (w * (3 * x)) ≤ n * (x * (3 * x)) = mul-le-mul_left n c in
     let p : x * 1 ≤ x * x = mul-le-mul_left x pos in
     let a : k * (5 * x + x * x) ≤ w * (5 * x + x * x) = mul-le-mul_right (5 * x + x * x) less in
     let b : w * x ≤ w * (x * x) = mul-le-mul_left w (omega arith) in
     omega arith
 
-pub equation-bound : (w k n : ℕ) → k ≤ w → 2 * 2 ^ w + k * (5 * 2 ^ w + 2 ^ w * 2 ^ w) + n * (2 ^ w * 2 ^ w) + 1 ≤ 64 * (n + w + 1) * 4 ^ (w + 1)
+pub equation-bound : (w k n : ℕ) → k ≤ w → 2 * 2 ^ w + k * (5 * 2 ^ w + 2 ^ w * 2 ^ w) + n * (w * (3 * 2 ^ w)) + 1 ≤ 64 * (n + w + 1) * 4 ^ (w + 1)
 equation-bound w k n less =
-    subst (λ z. 2 * 2 ^ w + k * (5 * 2 ^ w + 2 ^ w * 2 ^ w) + n * (2 ^ w * 2 ^ w) + 1 ≤ 64 * (n + w + 1) * z) (sym (four_next w)) (room-sum (2 ^ w) w k n (pow_pos w) less)
+    subst (λ z. 2 * 2 ^ w + k * (5 * 2 ^ w + 2 ^ w * 2 ^ w) + n * (w * (3 * 2 ^ w)) + 1 ≤ 64 * (n + w + 1) * z) (sym (four_next w)) (room-sum (2 ^ w) w k n (below_pow w) less)
 
 module _ (s t u : Store) (st : Grows s t) (tu : Grows t u) (f g e : ℕ) (first : Room (f ∷ g ∷ []) 2 s t) where
   pub sides-first : SidesRoom f g s t

@@ -1,5 +1,5 @@
 -- Many equations as one: that no pair differs.
-use Rattle.std.proofs.Common.{◌≡◌, ◌↔◌, ℕ, zero, suc, ◌+◌, ◌-◌, ◌*◌, ◌^◌, min, ◌<◌, ◌≤◌, Bool, true, false, ◌||◌, List, [], ◌∷◌, length, map, get_or, Result, Ok, Err, refl, sym, ap, ap₂, subst, ◌∙◌, arith}
+use Rattle.std.proofs.Common.{◌≡◌, ◌↔◌, ℕ, zero, suc, ◌+◌, ◌-◌, ◌*◌, ◌^◌, min, ◌<◌, ◌≤◌, Bool, true, false, ◌||◌, List, [], ◌∷◌, length, map, get_or, refl, sym, ap, ap₂, subst, ◌∙◌, arith}
 use Rattle.std.proofs.lemmas.Bool.{true≢false}
 use Rattle.std.proofs.lemmas.Nat.{pow_pos}
 use Rattle.std.proofs.Math.Nat.{mul-le-mul_left}
@@ -7,23 +7,20 @@ use Rattle.std.proofs.Math.Path.{fun_ext}
 use Rattle.cb_model.specs.Bits.{Bits, Each, xor}
 use Rattle.cb_dd.specs.declared.Node.{Node}
 use Rattle.cb_dd.specs.declared.Triple.{Triple}
-use Rattle.cb_dd.specs.declared.Stop.{Stop}
-use Rattle.cb_dd.specs.declared.Stop.TheVariants.{Nodes, Memory}
-use Rattle.cb_dd.specs.Diagram.{Store, IsNode, function_of, fulls_after}
+use Rattle.cb_dd.specs.Diagram.{Store, IsNode, function_of}
 use Rattle.cb_dd.proofs.Diagrams.{function_of-zero}
 use Rattle.cb_ops.specs.Ops.{Grows, StandsFor, DependsOn, Agree}
 use Rattle.cb_ops.proofs.Ite.{Grows-then}
 use Rattle.cb_boole.specs.Elimination.{Function, rest, solved}
-use Rattle.cb_boole.specs.View.{View, IsFit, InRange, point}
+use Rattle.cb_boole.specs.View.{View, IsFit, point}
 use Rattle.cb_boole.proofs.Grow.{fit_two}
 use Rattle.cb_boole.proofs.Bounds.{four_next}
 use Rattle.cb_solution.specs.Differ.{ArePairs, DependPairs, DifferRoom, some_differ}
-use Rattle.cb_solution.specs.Solution.{has_refused}
-use Rattle.cb_elim.specs.Store.{Seen, IsStore, IsArgument, IsAsBefore, OnlyNodes, AreThere, value_in, slot_bits, view_of}
+use Rattle.cb_elim.specs.Store.{Seen, IsStore, IsArgument, IsAsBefore, AreThere, value_in, slot_bits, view_of}
 use Rattle.cb_elim.specs.Equation.{DependEach, GeneralRoom}
 use Rattle.cb_elim.specs.Unified.{HasNone, HasSameValues, IsSolutionOf, IsSolved, OnlyValues, UnifyCause}
-use Rattle.cb_elim.specs.Pairs.{AreArguments, AreSame, AreSlots, AreSolved, AreUnified, AgreeAt, HaveNone, PairsCause, PairsRoom, pairs_bound}
-use Rattle.cb_elim.proofs.Views.{only-nodes, view-still}
+use Rattle.cb_elim.specs.Pairs.{AreArguments, AreSame, AreSlots, AreSolved, AreUnified, AgreeAt, HaveNone, PairsCause, PairsRoom}
+use Rattle.cb_elim.proofs.Views.{view-still}
 use Rattle.cb_elim.proofs.Rooms.{depend-still}
 use Rattle.cb_elim.proofs.Equations.{same-slots, same-values}
 

@@ -7,6 +7,7 @@ use Rattle.cb_dd.specs.declared.Node.{Node}
 use Rattle.cb_dd.specs.Diagram.{Store, IsNode, function_of}
 use Rattle.cb_ops.specs.Ops.{DependsOn}
 use Rattle.cb_ops.specs.Support.{IsListed}
+use Rattle.cb_ops.specs.Composed.{AreLower}
 use Rattle.cb_ops.specs.Substitute.{Images, AreNodes, substituted}
 use Rattle.cb_boole.specs.Elimination.{Function, DependsOnly, rest, solved}
 use Rattle.cb_solution.specs.Solution.{IsFalling, ImagesWithin}
@@ -31,7 +32,8 @@ pub record AreMoved (old new : List Triple) (images : Images) (ns vs : List Node
   pub number : length vs ≡ length ns
   pub at : (x : ℕ) (p : Bits) → value_in new vs x p ≡ value_in old ns x (substituted old images p)
 
--- the images of the levels, put in all at once, are the most general solution of f = g
+-- The images of the levels, put in all at once, are the most general solution of f = g; none depends on a greater level that
+-- has one.
 pub record AreGeneral (old new : List Triple) (constants : ℕ) (f g : ℕ) (images : Images) : Type 0 where
   pub levels : List ℕ
   pub elimination : IsElimination constants (differ old f g) levels
@@ -39,6 +41,7 @@ pub record AreGeneral (old new : List Triple) (constants : ℕ) (f g : ℕ) (ima
   pub rise : IsStrictlyIncreasing (map (λ i. i.0) images)
   pub within : (l : ℕ) → IsListed (map (λ i. i.0) images) l → IsListed levels l
   pub nodes : AreNodes new images
+  pub lower : AreLower new images
   pub at : (p : Bits) → substituted new images p ≡ solved levels (differ old f g) p
 
 -- Slot x has a new value, the old one with the images put in; the trail gains the old one, where it is another node.
@@ -77,7 +80,7 @@ DependEach ts ns ls = Each (λ n. DependsOn ts n.0 ls) ns
 -- nodes that putting the images into these nodes adds at most, where all depend on the levels of the list alone
 pub record MovedRoom (ns : List Node) (images : Images) (old new : Store) : Type 0 where
   pub most : (ls : List ℕ) → DependEach old.triples ns ls → ImagesWithin old.triples images ls →
-      length new.triples ≤ length old.triples + length ns * (2 ^ length ls * 2 ^ length ls)
+      length new.triples ≤ length old.triples + length ns * (length ls * (3 * 2 ^ length ls))
 
 -- nodes that solving the equation adds at most, where its sides depend on the levels of the list alone
 pub record SidesRoom (f g : ℕ) (old new : Store) : Type 0 where

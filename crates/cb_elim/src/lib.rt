@@ -8,6 +8,7 @@ ghost use Rattle.cb_model.specs.Bits.{Bits, Each, xor};
 ghost use Rattle.cb_dd.specs.Diagram.{Store as Nodes, IsNode, function_of, fulls_after};
 ghost use Rattle.cb_ops.specs.Ops.{Grows, IsIte, StandsFor};
 ghost use Rattle.cb_ops.specs.Substitute.{AreNodes};
+ghost use Rattle.cb_ops.specs.Composed.{AreLower};
 ghost use Rattle.std.specs.Option.{option_map};
 ghost use Rattle.cb_boole.specs.Elimination.{DependsOnly};
 ghost use Rattle.cb_boole.specs.View.{InRange, IsFit, point};
@@ -448,6 +449,7 @@ impl Store {
         requires store { IsStore self.old }
         requires nodes { AreNodes self.old.nodes.triples images.now }
         requires rise { IsStrictlyIncreasing (map (λ p. p.0) images.now) }
+        requires lower { AreLower self.old.nodes.triples images.now }
         requires free { (l : ℕ) → IsListed (map (λ i. i.0) images.now) l → self.old.constants ≤ l }
         ensures moved { OnOk result (AreMoved self.old.nodes.triples self.new.nodes.triples images.now self.old.slots self.new.slots) }
         ensures values { OnOk result (OnlyValues self.old self.new) }

@@ -6,7 +6,8 @@ ghost use Rattle.cb_model.specs.Bits.{Bits, Each};
 ghost use Rattle.cb_dd.specs.Diagram.{IsNode, fulls_after};
 ghost use Rattle.cb_ops.specs.Ops.{Grows};
 ghost use Rattle.cb_ops.specs.Support.{IsListed};
-ghost use Rattle.cb_ops.specs.Substitute.{AreNodes, SubstituteRoom, substituted};
+ghost use Rattle.cb_ops.specs.Substitute.{AreNodes, substituted};
+ghost use Rattle.cb_ops.specs.Composed.{AreLower, ComposedRoom};
 ghost use Rattle.cb_solution.specs.Solution.{has_refused};
 ghost use Rattle.cb_trail.specs.Uses.{IsUsed};
 ghost use Rattle.cb_elim.specs.Store.{AreThere, value_in};
@@ -171,6 +172,7 @@ pub(crate) fn rewrite(
 ) -> Result<(), Stop>
     requires images { AreNodes ops.old.triples images.now }
     requires rise { IsStrictlyIncreasing (map (λ p. p.0) images.now) }
+    requires lower { AreLower ops.old.triples images.now }
     requires at_rise { IsStrictlyIncreasing at.now }
     requires at_below { (x : ℕ) → IsListed at.now x → x < length slots.old }
     requires watched { AreWatched ops.old.triples constants slots.old trail.old uses.old }
@@ -201,18 +203,19 @@ fn rewrite_one(
 ) -> Result<(), Stop>
     requires images { AreNodes ops.old.triples images.now }
     requires rise { IsStrictlyIncreasing (map (λ p. p.0) images.now) }
+    requires lower { AreLower ops.old.triples images.now }
     requires slot { slot < length slots.old }
     requires watched { AreWatched ops.old.triples constants slots.old trail.old uses.old }
     ensures stepped { OnOk result (IsStepped ops.old ops.new images.now slot slots.old slots.new trail.old trail.new) }
     ensures refused { OnErr result ((slots.new ≡ slots.old) × (trail.new ≡ trail.old)) }
     ensures grows { Grows ops.old ops.new }
     ensures watched { AreWatched ops.new.triples constants slots.new trail.new uses.new }
-    ensures room { SubstituteRoom (slice_index_or slots.old slot (record { 0 = 0 })).0 images.now ops.old ops.new }
+    ensures room { ComposedRoom (slice_index_or slots.old slot (record { 0 = 0 })).0 images.now ops.old ops.new }
     ensures full { result ≡ Err Stop.Nodes → length ops.new.triples ≡ ops.new.budget }
     ensures fulls { ops.new.fulls ≡ has_refused ops.old.fulls result }
 {
     let old = slots[slot];
-    let value = ops.substitute(old, images)?;
+    let value = ops.compose_all(old, images)?;
     if value.0 == old.0 {
         return Ok(());
     }

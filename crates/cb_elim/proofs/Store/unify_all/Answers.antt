@@ -1,4 +1,4 @@
-use Rattle.std.proofs.Common.{Bool, Result, Ok, Err, length, refl, ap, ◌∙◌, arith}
+use Rattle.std.proofs.Common.{Bool, Ok, Err, length, refl, ap, ◌∙◌, arith}
 use Rattle.cb_elim.specs.Store.{Seen}
 use Rattle.cb_elim.proofs.Inside.{seen}
 use Rattle.cb_elim.proofs.Kept.{watched-refused}

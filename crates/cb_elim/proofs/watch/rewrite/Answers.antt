@@ -1,5 +1,6 @@
 use Rattle.std.proofs.Common.{◌+◌, ◌<◌, length, get_or, refl, arith}
 use Rattle.cb_ops.proofs.Substitute.{grown-nodes}
+use Rattle.cb_ops.proofs.Turns.{lower-grown}
 use Rattle.cb_solution.proofs.Solved.{listed-at}
 use Rattle.cb_elim.proofs.Rooms.{moved-all}
 use Rattle.cb_elim.proofs.Moved.{rewrite-few, rewrite-next, rewrite-none, rewrite-others, rewrite-rewritten, rewrite-room, rewrite-values}
@@ -10,6 +11,9 @@ loop-slot-init c = rewrite-none c.args.constants c.args.images.now c.args.at.now
 
 pub rewrite_one-requires-clause-images : goal.rewrite_one-requires-clause-images
 rewrite_one-requires-clause-images c = grown-nodes c.args.ops.now c.loop-slot.ops c.loop-slot.invariant.grows c.args.images.now c.requires.images
+
+pub rewrite_one-requires-clause-lower : goal.rewrite_one-requires-clause-lower
+rewrite_one-requires-clause-lower c = lower-grown c.args.ops.now c.loop-slot.ops c.loop-slot.invariant.grows c.args.images.now c.requires.images c.requires.lower
 
 pub rewrite_one-requires-clause-slot : goal.rewrite_one-requires-clause-slot
 rewrite_one-requires-clause-slot c =

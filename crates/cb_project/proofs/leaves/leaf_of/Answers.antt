@@ -2,9 +2,21 @@ use Rattle.std.proofs.Common.{◌≡◌, ◌+◌, ◌-◌, arith, subst}
 use Rattle.std.proofs.Common.{◌<◌}
 use Rattle.cb_dd.specs.Diagram.{function_of}
 use Rattle.cb_boole.specs.Elimination.{DependsOnly}
-use Rattle.cb_ops.proofs.Ite.{Grows-same}
+use Rattle.cb_ops.proofs.Ite.{Grows-same, Grows-then, grown-node}
 use Rattle.cb_project.proofs.Steps.{leaf-room-one, leaf-room-two, leaf-room, leaf-solvable, leaf-is, pick-room-at, pick-at, solution-room-at, solution-at, rest-at}
 use Rattle.cb_project.proofs.leaves.leaf_of.Goals as goal
+
+pub xor-requires-clause-f : goal.xor-requires-clause-f
+xor-requires-clause-f c = grown-node c.args.ops.now c.pick.new.ops c.pick.ensures.grows c.args.f.0 c.requires.node
+
+pub returns-in_err-misses-clause-grows : goal.returns-in_err-misses-clause-grows
+returns-in_err-misses-clause-grows c = Grows-then c.args.ops.now c.pick.new.ops c.xor.new.self c.pick.ensures.grows c.xor.ensures.grows
+
+pub returns-in_err-found-clause-grows : goal.returns-in_err-found-clause-grows
+returns-in_err-found-clause-grows c = Grows-then c.args.ops.now c.xor.new.self c.solution.new.ops (Grows-then c.args.ops.now c.pick.new.ops c.xor.new.self c.pick.ensures.grows c.xor.ensures.grows) c.solution.ensures.grows
+
+pub returns-clause-grows : goal.returns-clause-grows
+returns-clause-grows c = Grows-then c.args.ops.now c.xor.new.self c.solution.new.ops (Grows-then c.args.ops.now c.pick.new.ops c.xor.new.self c.pick.ensures.grows c.xor.ensures.grows) c.solution.ensures.grows
 
 pub returns-in_err-node-clause-room : goal.returns-in_err-node-clause-room
 returns-in_err-node-clause-room c =
