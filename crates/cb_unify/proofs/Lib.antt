@@ -4,5 +4,7 @@ pub mod Lent
 pub mod Slots
 pub mod Opened
 pub mod Making
+pub mod Added
+pub mod Leaves
 mod Inside
 pub mod Solving

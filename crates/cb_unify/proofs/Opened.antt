@@ -80,7 +80,7 @@ other-bits x w q y ne = sym (ap (λ b. if b then q else w y) (ne_eqb y x ne))
 own-bit : (x : ℕ) (w : Bits) (q : Bool) → put x q w x ≡ q
 own-bit x w q = ap (λ b. if b then q else w x) (eq-eqb x x refl)
 
-leaf-rises : (n : ℕ) (k : ℕ) (cs : List Stored) → Rising n k cs → Rising (n + 1) k (cs ++ cell.Leaf n ∷ [])
+pub leaf-rises : (n : ℕ) (k : ℕ) (cs : List Stored) → Rising n k cs → Rising (n + 1) k (cs ++ cell.Leaf n ∷ [])
 leaf-rises n k cs h = rise-append n (n + 1) k cs (cell.Leaf n ∷ []) h (omega arith, omega arith) (λ j less. (less, omega arith))
 
 module _ (old new : Booleans) (st : IsStore old) (x : ℕ) (v : IsNewVariable old new x) (range : HasSameRange (view_of old) (view_of new))
@@ -120,7 +120,7 @@ module _ (old new : Booleans) (st : IsStore old) (x : ℕ) (v : IsNewVariable ol
     slots = count-slots;
   }
 
-none-rises : (n k : ℕ) (c : Stored) (cs : List Stored) → ((j : ℕ) → j ≤ n → Rising n j (c ∷ [])) → Rising n k cs → Rising n k (cs ++ c ∷ [])
+pub none-rises : (n k : ℕ) (c : Stored) (cs : List Stored) → ((j : ℕ) → j ≤ n → Rising n j (c ∷ [])) → Rising n k cs → Rising n k (cs ++ c ∷ [])
 none-rises n k c cs low h = rise-append n n k cs (c ∷ []) h (low n (omega arith)) low
 
 pub unknown-bus : (s : Booleans) → IsUnknown s s sort.Bus shown.BusVar

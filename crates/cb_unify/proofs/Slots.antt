@@ -4,7 +4,6 @@ use Rattle.std.specs.Prelude.{slice_get}
 use Rattle.std.specs.Option.{option_map}
 use Rattle.cb_model.specs.declared.Sort.{Sort}
 use Rattle.cb_model.specs.declared.Sort.TheVariants as sort
-use Rattle.cb_model.specs.Bits.{Bits}
 use Rattle.cb_model.specs.Values.{Bit, Sorts}
 use Rattle.cb_boole.specs.View.{point}
 use Rattle.cb_dd.specs.Diagram.{function_of}
@@ -15,11 +14,10 @@ use Rattle.cb_heap.specs.declared.Cell.TheVariants as shown
 use Rattle.cb_heap.specs.declared.Stored.{Stored}
 use Rattle.cb_heap.specs.declared.Stored.TheVariants as cell
 use Rattle.cb_heap.specs.Heap.{shown_as}
-use Rattle.cb_heap.specs.Reading.{Reading}
 use Rattle.cb_heap.specs.Finite.{CellSorted, IsSorted}
 use Rattle.cb_heap.specs.Links.{IsLast, LeadsTo, arrives, goes, link_of}
 use Rattle.cb_heap.proofs.Steps.{no_some, some-inj}
-use Rattle.cb_unify.specs.State.{Seen, IsState, Reads}
+use Rattle.cb_unify.specs.State.{Seen, HasValue, IsState, node_bit}
 use Rattle.cb_unify.specs.Growth.{HasSlot}
 use Rattle.cb_unify.proofs.Cells.{rise-below}
 
@@ -98,6 +96,6 @@ not-leaf t ss cs r e d o last shows at never =
 
 -- the value of a cell that has a slot is the bit of the slot's value
 pub slot-value : (s : Seen) (r x : ℕ) → HasSlot s r x → (n : ℕ) → function_of s.store.nodes.triples n ≡ value_in s.store.nodes.triples s.store.slots x →
-    (t : Sorts) (a w : Bits) (g : Reading) → Reads t s a w g → g r ≡ Bit (function_of s.store.nodes.triples n (point (view_of s.store).stands a w))
+    HasValue s r (λ a w. Bit (node_bit s a w n))
 unfolding view_of
 slot-value s r x h n f t a w g q = h.bit (slot_bits (view_of s.store) a w) g q.reading.holds ∙ ap Bit (sym (λ i. f i (point (view_of s.store).stands a w)))

@@ -1,19 +1,24 @@
 -- What new variables and new cells do to the values of a state.
-use Rattle.std.specs.Prelude.{◌≡◌, ℕ, ◌+◌, ◌<◌, List, [], ◌∷◌, ◌++◌, length, Some, slice_get}
+use Rattle.std.specs.Prelude.{◌≡◌, ℕ, ◌+◌, ◌<◌, ◌≤◌, List, [], ◌∷◌, ◌++◌, length, map, Some, slice_get}
 use Rattle.cb_model.specs.declared.Sort.{Sort}
+use Rattle.cb_model.specs.declared.Sort.TheVariants as sort
 use Rattle.cb_model.specs.declared.Tree.{Tree}
 use Rattle.cb_model.specs.Bits.{Bits}
-use Rattle.cb_model.specs.Values.{Ground, Bit, Sorts, Fits, Valuation, tree_value}
+use Rattle.cb_model.specs.Values.{Ground, Bit, Word, Sorts, Fits, Valuation, tree_value}
 use Rattle.cb_model.specs.Program.{bools}
 use Rattle.cb_boole.specs.View.{InRange}
-use Rattle.cb_elim.specs.Store.{Seen as Booleans, slot_bits, view_of}
+use Rattle.cb_dd.specs.declared.Node.{Node}
+use Rattle.cb_ops.specs.Ops.{Grows}
+use Rattle.cb_elim.specs.Store.{Seen as Booleans, IsArgument, slot_bits, view_of}
 use Rattle.cb_heap.specs.declared.Cell.{Cell}
+use Rattle.cb_heap.specs.declared.Cell.TheVariants as shown
 use Rattle.cb_heap.specs.declared.Stored.{Stored}
 use Rattle.cb_heap.specs.Heap.{IsAddable, sort_of, stored_as}
 use Rattle.cb_heap.specs.Reading.{Reading, CellHolds, CellsHold}
 use Rattle.cb_heap.specs.Finite.{CellSorted}
 use Rattle.cb_join.specs.Joins.{Rising}
-use Rattle.cb_unify.specs.State.{Seen, Reads, FitsTable, value_of}
+use Rattle.cb_unify.specs.State.{Seen, FitsTable, HasValue, IsState, Reads, node_bit, value_of}
+use Rattle.cb_unify.specs.Moments.{KeepsMoments}
 
 -- variables and cells were added, and values were ruled out: all else stays
 pub record IsGrown (old new : Seen) : Type 0 where
@@ -86,3 +91,51 @@ pub record IsUnknown (old new : Booleans) (z : Sort) (c : Cell) : Type 0 where
   pub drawn : new.drawn ≡ old.drawn + bools (z ∷ [])
   pub free : length new.free ≡ length old.free + bools (z ∷ [])
   pub slots : length new.slots ≡ length old.slots + bools (z ∷ [])
+
+-- no variable was added, no more slots than so many, and perhaps nodes
+pub record AddsSlots (old new : Seen) (most : ℕ) : Type 0 where
+  pub constants : new.store.constants ≡ old.store.constants
+  pub drawn : new.store.drawn ≡ old.store.drawn
+  pub free : new.store.free ≡ old.store.free
+  pub slots : length new.store.slots ≤ length old.store.slots + most
+  pub nodes : Grows old.store.nodes new.store.nodes
+
+-- Cells, slots that are no variable's and nodes were added, each behind those that were there.
+pub record IsAdded (old new : Seen) (most : ℕ) : Type 0 where
+  pub extended : IsExtended old new
+  pub adds : AddsSlots old new most
+  pub cells : (more : List Stored) × (new.heap.cells ≡ old.heap.cells ++ more)
+  pub arguments : (n : ℕ) → IsArgument old.store n → IsArgument new.store n
+  pub moments : KeepsMoments old new
+  pub state : IsState new
+
+-- a cell of a sort stands in place r, and fits a table that the terms fit
+pub record IsPlaced (old new : Seen) (z : Sort) (r : ℕ) : Type 0 where
+  pub sort : slice_get new.heap.sorts r ≡ Some z
+  pub fits : (t : Sorts) → FitsTable t old → FitsTable t new
+
+-- the cell is no leaf
+abbrev pub IsNoLeaf : Cell → Type 0
+IsNoLeaf (shown.Leaf x) = ⊥
+IsNoLeaf _ = Unit {0}
+
+-- a cell was added, in place r
+pub record IsPut (old new : Seen) (c : Cell) (r : ℕ) : Type 0 where
+  pub added : IsAdded old new 0
+  pub nodes : new.store.nodes ≡ old.store.nodes
+  pub cell : slice_get new.heap.cells r ≡ Some (stored_as c)
+  pub sort : slice_get new.heap.sorts r ≡ Some (sort_of c)
+  pub fits : (t : Sorts) → FitsTable t old → CellSorted t new.heap.sorts r (stored_as c) → FitsTable t new
+
+-- the cell has the truth value of the node
+pub record IsLeafOf (old new : Seen) (n r : ℕ) : Type 0 where
+  pub added : IsAdded old new 1
+  pub placed : IsPlaced old new sort.Bool r
+  pub value : HasValue new r (λ a w. Bit (node_bit old a w n))
+
+-- the cell is the bus of the nodes' truth values
+pub record IsBusOf (old new : Seen) (ns : List Node) (r : ℕ) : Type 0 where
+  pub added : IsAdded old new (length ns)
+  pub placed : IsPlaced old new sort.Bus r
+  pub nodes : new.store.nodes ≡ old.store.nodes
+  pub value : HasValue new r (λ a w. Word (map (λ n. node_bit old a w n.0) ns))

@@ -1,10 +1,11 @@
 -- What contracts see of terms over a store of Boolean variables: which valuations belong to them.
-use Rattle.std.specs.Prelude.{◌≡◌, ◌↔◌, ℕ, ◌<◌, ◌≤◌, List, [], length, Some, slice_get}
+use Rattle.std.specs.Prelude.{◌≡◌, ◌↔◌, ℕ, ◌<◌, ◌≤◌, Bool, List, [], length, Some, slice_get}
 use Rattle.cb_model.specs.declared.Sort.{Sort}
 use Rattle.cb_model.specs.declared.Sort.TheVariants as sort
 use Rattle.cb_model.specs.Bits.{Bits, Each}
 use Rattle.cb_model.specs.Values.{Ground, Bit, Word, Sorts, Valuation}
-use Rattle.cb_boole.specs.View.{InRange}
+use Rattle.cb_boole.specs.View.{InRange, point}
+use Rattle.cb_dd.specs.Diagram.{function_of}
 use Rattle.cb_elim.specs.Store.{Seen as Booleans, IsStore, empty, slot_bits, view_of, with_fulls as store_fulls}
 use Rattle.cb_heap.specs.Heap.{Terms, IsHeap, no_terms}
 use Rattle.cb_heap.specs.Reading.{Reading, IsReading, Agree}
@@ -25,6 +26,14 @@ no_state constants budget = record { heap = no_terms; store = empty constants bu
 pub record Reads (t : Sorts) (s : Seen) (a w : Bits) (g : Reading) : Type 0 where
   pub range : InRange (view_of s.store) a w
   pub reading : IsReading t (slot_bits (view_of s.store) a w) s.heap.sorts s.heap.cells g
+
+-- the bit of a node where the Boolean variables have these bits
+abbrev pub node_bit : Seen → Bits → Bits → ℕ → Bool
+node_bit s a w n = function_of s.store.nodes.triples n (point (view_of s.store).stands a w)
+
+-- the cell's value is this, at each assignment and whatever belongs to the state there
+abbrev pub HasValue : Seen → ℕ → (Bits → Bits → Ground) → Type 0
+HasValue s r f = (t : Sorts) (a w : Bits) (g : Reading) → Reads t s a w g → g r ≡ f a w
 
 -- the value of a variable of a sort
 abbrev pub value_of : Valuation → Sort → ℕ → Ground

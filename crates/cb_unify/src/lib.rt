@@ -10,12 +10,13 @@ ghost use Rattle.cb_boole.specs.View.{point};
 ghost use Rattle.cb_dd.specs.Diagram.{function_of};
 ghost use Rattle.cb_elim.specs.Store.{IsArgument, view_of};
 ghost use Rattle.cb_heap.specs.Reading.{Reading};
-ghost use Rattle.cb_unify.specs.State.{Seen, FitsTable, IsState, Reads, no_state, with_fulls};
+ghost use Rattle.cb_unify.specs.State.{Seen, FitsTable, HasValue, IsState, no_state, node_bit, with_fulls};
 ghost use Rattle.cb_unify.specs.Moments.{Moment, IsMoment, KeepsMoments, moment_of, reverted};
 ghost use Rattle.cb_unify.specs.Growth.{HasSlot};
 ghost use Rattle.cb_unify.specs.Lending.{LendsOps, LendsStore};
 ghost use Rattle.cb_unify.specs.Laws.{OpsAreLent, StoreIsLent};
 
+mod bus;
 mod fresh;
 mod solve;
 
@@ -150,7 +151,7 @@ impl State {
         requires state { IsState self.now }
         requires sort { slice_get self.now.heap.sorts r.0 ≡ Some sort.Bool }
         requires fits { (t : Sorts) × FitsTable t self.now }
-        ensures value { (t : Sorts) (a w : Bits) (g : Reading) → Reads t self.now a w g → g r.0 ≡ Bit (function_of self.now.store.nodes.triples result.0 (point (view_of self.now.store).stands a w)) }
+        ensures value { HasValue self.now r.0 (λ a w. Bit (node_bit self.now a w result.0)) }
         ensures argument { IsArgument self.now.store result.0 }
     {
         let Some(slot) = self.slot(r) else {
