@@ -1,8 +1,8 @@
 //! An adder whose inputs have their levels in the order of its ports.
 
-use crate::checked::{and, bit, or, xor};
 use cb_dd::{Node, Stop};
 use cb_ops::Ops;
+use cb_trial::checked::{and, bit, or, xor};
 
 /// The sums are built from the first bit on; the last carry is given back.
 pub fn build(ops: &mut Ops, width: u32) -> Result<Node, Stop> {

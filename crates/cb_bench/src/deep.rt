@@ -1,8 +1,8 @@
 //! Diagrams with a node at each level, and operations that go down through all of them.
 
-use crate::checked::{and, bit, or, restrict, xor};
 use cb_dd::{Node, Stop};
 use cb_ops::Ops;
+use cb_trial::checked::{and, bit, or, restrict, xor};
 
 pub fn build(ops: &mut Ops, size: u32) -> Result<(), Stop> {
     let mut all = Node::ONE;

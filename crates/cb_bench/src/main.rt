@@ -3,13 +3,13 @@
 #![tactic(auto)]
 
 mod adder;
-mod checked;
 mod deep;
 mod multiplier;
 mod queens;
 
 use cb_dd::Stop;
 use cb_ops::Ops;
+use cb_trial::checked::end;
 use std::test::Fail;
 use std::time::Instant;
 use std::{env, io};
@@ -25,8 +25,15 @@ fn main(rt: HostRuntime) -> Result<(), Fail> {
 
 fn run(rt: &HostRuntime, name: &str, size: u32) -> Result<(), Fail> {
     let mut ops = Ops::new(rt.alloc(), usize::MAX)?;
+    let told = run_over(rt, &mut ops, name, size);
+    end(ops);
+    told
+}
+
+// The same in a store that is lent.
+fn run_over(rt: &HostRuntime, ops: &mut Ops, name: &str, size: u32) -> Result<(), Fail> {
     let since = Instant::now(rt)?;
-    build(rt, &mut ops, name, size)?;
+    build(rt, ops, name, size)?;
     report(rt, name, size, since, ops.count())?;
     Ok(())
 }

@@ -1,9 +1,9 @@
 //! The outputs of a multiplier whose inputs have their levels in turn.
 
 use crate::adder::full_adder;
-use crate::checked::{and, bit};
 use cb_dd::{Node, Stop};
 use cb_ops::Ops;
+use cb_trial::checked::{and, bit};
 use std::alloc::Global;
 
 pub fn build(alloc: Global, ops: &mut Ops, width: u32) -> Result<(), Stop> {

@@ -1,8 +1,8 @@
 //! The placements of queens of which none attacks another, one in each row.
 
-use crate::checked::{and, bit, not, or};
 use cb_dd::{Node, Stop};
 use cb_ops::Ops;
+use cb_trial::checked::{and, bit, not, or};
 
 pub fn build(ops: &mut Ops, size: u32) -> Result<Node, Stop> {
     let mut all = rows(ops, size)?;

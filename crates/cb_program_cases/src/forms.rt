@@ -2,9 +2,9 @@
 
 ghost use Rattle.std.specs.Prelude.{◌≤◌, length};
 
-use crate::text::{push, push_number};
 use cb_model::{RawClause, RawGoal, RawQuery, RawTerm};
 use cb_syntax::{read_clauses, read_queries};
+use cb_trial::text::{push, push_number};
 use std::alloc::Global;
 use std::test::Fail;
 

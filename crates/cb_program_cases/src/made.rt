@@ -1,9 +1,9 @@
 //! Texts too long for a line.
 
-use crate::text::{push, push_number};
 use crate::{program, tokens};
 use cb_sorts::Program;
 use cb_syntax::read_clauses;
+use cb_trial::text::{push, push_number};
 use std::alloc::Global;
 use std::test::Fail;
 

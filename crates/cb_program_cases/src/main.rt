@@ -5,10 +5,8 @@
 
 ghost use Rattle.std.specs.Prelude.{◌≤◌, length};
 
-mod escaped;
 mod forms;
 mod made;
-mod text;
 mod tokens;
 mod told;
 mod trees;
@@ -16,6 +14,7 @@ mod trees;
 use cb_directives::LoadError;
 use cb_sorts::{Program, load};
 use cb_syntax::{ReadError, read_clauses};
+use cb_trial::escaped;
 use std::alloc::Global;
 use std::io::Write;
 use std::test::Fail;

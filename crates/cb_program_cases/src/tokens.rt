@@ -2,8 +2,8 @@
 
 ghost use Rattle.std.specs.Prelude.{◌≤◌, length};
 
-use crate::text::push;
 use cb_lex::{Kind, Lexer, Token};
+use cb_trial::text::push;
 use std::alloc::Global;
 use std::test::Fail;
 

@@ -5,11 +5,11 @@ ghost use Rattle.cb_model.specs.Forms.{query_form};
 ghost use Rattle.cb_model.specs.Written.{query_written};
 
 use crate::program;
-use crate::text::{push, push_number};
 use crate::trees::{Names, push_goals, push_trees};
 use cb_model::{ClauseView, RawQuery, Sort};
 use cb_sorts::{Program, Query};
 use cb_syntax::read_queries;
+use cb_trial::text::{push, push_number};
 use std::alloc::Global;
 use std::test::Fail;
 

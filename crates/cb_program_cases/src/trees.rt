@@ -1,8 +1,8 @@
 //! Terms and goals of programs and queries.
 
-use crate::text::{push, push_number};
 use cb_model::{Expr, Goal, Tree};
 use cb_sorts::{Program, Query};
+use cb_trial::text::{push, push_number};
 use std::alloc::Global;
 use std::test::Fail;
 

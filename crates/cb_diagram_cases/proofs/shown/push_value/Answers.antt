@@ -3,21 +3,21 @@ use Rattle.cb_dd.specs.Diagram.{function_of}
 use Rattle.cb_dd.proofs.Children.{bottom_child, top_child}
 use Rattle.cb_dd.proofs.Diagrams.{function_of-zero, function_of-one}
 use Rattle.cb_diagram_cases.proofs.Choices.{same_choice}
-use Rattle.cb_diagram_cases.proofs.show.writes_a_value_with_a_parameter.Goals as goal
+use Rattle.cb_diagram_cases.proofs.shown.push_value.Goals as goal
 
 pub node-requires-clause-lo_child : goal.node-requires-clause-lo_child
-node-requires-clause-lo_child g c = bottom_child _ _ (omega arith)
+node-requires-clause-lo_child c = bottom_child _ _ (omega arith)
 
 pub node-requires-clause-hi_child : goal.node-requires-clause-hi_child
-node-requires-clause-hi_child g c = top_child _ _ (omega arith)
+node-requires-clause-hi_child c = top_child _ _ (omega arith)
 
 pub node-requires-2-clause-hi_child : goal.node-requires-2-clause-hi_child
-node-requires-2-clause-hi_child g c = top_child _ _ (omega arith)
+node-requires-2-clause-hi_child c = top_child _ _ (omega arith)
 
-pub value-requires-clause-scope : goal.value-requires-clause-scope
-value-requires-clause-scope g c =
-    let one = function_of-one c.in_ok-ops.ops.triples in
-    let zero = function_of-zero c.in_ok-ops.ops.triples in
+pub value-told-requires-clause-scope : goal.value-told-requires-clause-scope
+value-told-requires-clause-scope c =
+    let one = function_of-one c.args.ops.now.triples in
+    let zero = function_of-zero c.args.ops.now.triples in
     let next = function_of-one c.node.new.self.triples in (
       1,
       record {

@@ -1,6 +1,6 @@
 use Rattle.std.proofs.Common.{arith}
 use Rattle.cb_dd.proofs.Children.{bottom_child, top_child}
-use Rattle.cb_bench.proofs.checked.bit.Goals as goal
+use Rattle.cb_trial.proofs.checked.bit.Goals as goal
 
 pub node-requires-clause-lo_child : goal.node-requires-clause-lo_child
 node-requires-clause-lo_child c = bottom_child _ _ (omega (arith, c.ranges.level.fits))

@@ -1,9 +1,0 @@
-use Rattle.std.proofs.Common.{arith}
-use Rattle.cb_dd.proofs.Children.{bottom_child, top_child}
-use Rattle.cb_diagram_cases.proofs.checked.bit.Goals as goal
-
-pub node-requires-clause-lo_child : goal.node-requires-clause-lo_child
-node-requires-clause-lo_child c = bottom_child _ _ (omega (arith, c.ranges.level.fits))
-
-pub node-requires-clause-hi_child : goal.node-requires-clause-hi_child
-node-requires-clause-hi_child c = top_child _ _ (omega (arith, c.ranges.level.fits))

@@ -1,0 +1,60 @@
+//! Diagrams, the operations on them, their products and their texts, tried from outside. A line of `cases.txt` begins with
+//! how many nodes a store may hold; the words behind it work on a stack of its nodes, and what they tell is written as a
+//! line. `stdout` was worked out by hand.
+#![tactic(auto)]
+
+mod desk;
+mod making;
+mod shown;
+mod telling;
+
+use cb_ops::Ops;
+use cb_trial::checked::end;
+use cb_trial::text::push;
+use desk::Desk;
+use std::alloc::Global;
+use std::io::Write;
+use std::test::Fail;
+use std::{fs, io};
+
+fn main(rt: HostRuntime) -> Result<(), Fail> {
+    let cases = fs::read_to_string(&rt, "cases.txt")?;
+    let mut out = Vec::new(rt.alloc());
+    for line in cases.lines() {
+        tell(rt.alloc(), line, &mut out)?;
+    }
+    io::writer(&rt).write_all(&out)?;
+    Ok(())
+}
+
+// Writes what a line asks for.
+fn tell(alloc: Global, line: &str, out: &mut Vec<u8>) -> Result<(), Fail> {
+    let Some((first, rest)) = line.split_once(": ") else {
+        return Ok(());
+    };
+    match first {
+        "name" => shown::tell_name(alloc, rest, out)?,
+        "number" => shown::tell_number(alloc, rest, out)?,
+        "value" => shown::tell_value(alloc, out)?,
+        _ => tell_words(alloc, first.parse().unwrap_or(0), rest, out)?,
+    }
+    push(out, "\n")
+}
+
+// Writes what the words tell that work on a store for so many nodes.
+fn tell_words(alloc: Global, budget: usize, words: &str, out: &mut Vec<u8>) -> Result<(), Fail> {
+    let mut ops = Ops::new(alloc, budget)?;
+    let told = work(alloc, &mut ops, words, out);
+    end(ops);
+    told
+}
+
+// Lets the words work on a store, one after another.
+fn work(alloc: Global, ops: &mut Ops, words: &str, out: &mut Vec<u8>) -> Result<(), Fail> {
+    let mut desk = Desk::new(alloc, ops);
+    push(out, "=")?;
+    for word in words.split(' ') {
+        desk.take(alloc, ops, word, out)?;
+    }
+    Ok(())
+}
