@@ -139,7 +139,7 @@ functions-through : (s t : Store) → Grows s t → (ns : List Node) → AllNode
 functions-through s t g [] w = refl
 functions-through s t g (n ∷ ns) w = ap₂ ◌∷◌ (fun_ext (λ p. grown-function s t g n.0 w.0 p)) (functions-through s t g ns w.1)
 
-renamed-sum : (m w q : ℕ) → 0 < q → m + m * q < 64 * (m + 1) * (w + 1) * (4 * q)
+renamed-sum : (m w q : ℕ) → 0 < q → m + m * (3 * q) < 64 * (m + 1) * (w + 1) * (4 * q)
 renamed-sum m w q pos =
     let a : m * 1 ≤ m * q = mul-le-mul_left m pos in
     let d : ((m + 1) * q) * 1 ≤ ((m + 1) * q) * (w + 1) = mul-le-mul_left ((m + 1) * q) (let h : 1 ≤ w + 1 = omega arith in h) in
@@ -149,7 +149,7 @@ module _ (s t : Store) (c first : ℕ) (values : List Node) (es : Entries) (rena
   few-entries : length es ≤ length values
   few-entries = let m : length (functions_of s.triples values) ≡ length values = length-functions s.triples values in omega (arith, renaming.few, m)
 
-  within-bound : (ls : List ℕ) → (n : ℕ) → n ≤ length s.triples + length values + length values * (2 ^ (length ls + length values) * 2 ^ (length ls + length values)) →
+  within-bound : (ls : List ℕ) → (n : ℕ) → n ≤ length s.triples + length values + length values * (3 * (2 ^ (length ls + length values) * 2 ^ (length ls + length values))) →
       n < length s.triples + 64 * (length values + 1) * (length ls + length values + 1) * 4 ^ (length ls + length values + 1)
   within-bound ls n h =
       let w : ℕ = length ls + length values in
@@ -208,7 +208,7 @@ module _ (s t u : Store) (st : Grows s t) (c first : ℕ) (values : List Node) (
   renamed-room few room = record {
     most = λ ls d.
         let dd : AllDepend t.triples values (all_levels ls first (length values)) = depend-grown s t st values (all_levels ls first (length values)) nodes (depend-all s.triples values ls (numbers_from first (length values)) d) in
-        let r : length u.triples ≤ length t.triples + length values * (2 ^ (length ls + length values) * 2 ^ (length ls + length values)) =
-        subst (λ w. length u.triples ≤ length t.triples + length values * (2 ^ w * 2 ^ w)) (length-all ls first (length values)) (room.most (all_levels ls first (length values)) dd (images-within ls)) in
+        let r : length u.triples ≤ length t.triples + length values * (3 * (2 ^ (length ls + length values) * 2 ^ (length ls + length values))) =
+        subst (λ w. length u.triples ≤ length t.triples + length values * (3 * (2 ^ w * 2 ^ w))) (length-all ls first (length values)) (room.most (all_levels ls first (length values)) dd (images-within ls)) in
         within-bound s t c first values es renaming ls (length u.triples) (let f = few-entries s t c first values es renaming in omega (arith, few, f, r));
   }

@@ -1,10 +1,10 @@
 -- The nodes of one leaf.
-use Rattle.std.proofs.Common.{◌≡◌, ◌⊎◌, inl, inr, ℕ, zero, suc, ◌+◌, ◌*◌, ◌<◌, ◌≤◌, ◌^◌, not, ◌||◌, nat_eq, get_or, take, Option, Some, None, List, [], ◌∷◌, ◌++◌, map, length, drop, if◌then◌else◌, refl, sym, ap, ap₂, ◌∙◌, subst, arith}
+use Rattle.std.proofs.Common.{◌≡◌, ◌⊎◌, inl, inr, ℕ, zero, suc, ◌+◌, ◌*◌, ◌<◌, ◌≤◌, ◌^◌, Bool, true, false, cond, not, ◌||◌, nat_eq, get_or, take, Option, Some, None, List, [], ◌∷◌, ◌++◌, map, length, drop, if◌then◌else◌, refl, sym, ap, ap₂, ◌∙◌, subst, arith}
 use Rattle.std.proofs.lemmas.Nat.{pow_pos}
 use Rattle.std.proofs.Math.ListN.{drop_of_length-le}
 use Rattle.std.proofs.Math.Seq.{drop-cons}
 use Rattle.std.proofs.lemmas.List.{take_more}
-use Rattle.std.specs.List.{list_any}
+use Rattle.std.specs.List.{list_any, filter}
 use Rattle.std.specs.Option.{option_map_or}
 use Rattle.std.proofs.Math.Nat.{mul-le-mul_left, mul-le-mul_right}
 use Rattle.std.proofs.Math.Path.{fun_ext}
@@ -16,9 +16,12 @@ use Rattle.cb_dd.specs.Diagram.{Store, IsNode, function_of}
 use Rattle.cb_ops.specs.Ops.{Grows, StandsFor, Room, DependsOn, IsIte}
 use Rattle.cb_ops.specs.Support.{IsListed}
 use Rattle.cb_ops.specs.Substitute.{Images, AreNodes, SubstituteRoom, Spreads, substituted, image_of}
+use Rattle.cb_ops.specs.Composed.{ComposedRoom, is_replaced}
+use Rattle.cb_solution.proofs.Lower.{solution-lower}
 use Rattle.cb_ops.proofs.Substitute.{substituted-grown}
 use Rattle.cb_ops.proofs.Ite.{grown-node, grown-function, grown-depends, choose-all, literal-is, Grows-then}
 use Rattle.cb_boole.specs.Elimination.{Function, DependsOnly, IsAway, both, rest, solved}
+use Rattle.cb_boole.proofs.Bounds.{below_pow}
 use Rattle.cb_boole.proofs.Only.{both_only, rest_only, solved_alike, weaker}
 use Rattle.cb_solution.specs.Solution.{IsFalling, IsSolution, HasRest, ImagesWithin, SolutionRoom}
 use Rattle.cb_solution.proofs.Solved.{only-from, only-into, listed-there}
@@ -26,7 +29,7 @@ use Rattle.cb_boole.specs.Parametric.{parametric}
 use Rattle.cb_boole.specs.Stages.{AreFor, misses}
 use Rattle.cb_boole.proofs.Picking.{negated, negated_only, parametric_only}
 use Rattle.cb_boole.proofs.Stages.{solvable}
-use Rattle.cb_project.specs.Leaves.{functions_of, AllNodes, AllDepend, AreInner, RestRoom, PickRoom, IsLeaf, LeafRoom, ArePutIn, PutRoom, IsStep, StepRoom}
+use Rattle.cb_project.specs.Leaves.{functions_of, AllNodes, AllDepend, AreInner, RestRoom, PickRoom, IsLeaf, LeafRoom, ArePutIn, PutRoom, ReplacedRoom, IsStep, StepRoom}
 use Rattle.cb_project.proofs.Nodes.{function-grown, functions-grown, nodes-grown, depend-grown, nodes-more, depend-more, functions-more, path-of, depends-by}
 use Rattle.cb_project.proofs.Levels.{are-for, needed-listed, falling-within}
 
@@ -260,6 +263,7 @@ module _ (s0 s1 s2 s3 : Store) (g1 : Grows s0 s1) (g2 : Grows s1 s2) (g3 : Grows
         function = record { at = λ p. grown-function s1 s3 (Grows-then s1 s2 s3 g2 g3) node wn p ∙ is1.at p ∙ ap (λ l. parametric levels l (function_of s0.triples f) p) (sym e) };
         are_nodes = found.nodes;
         rise = found.rise;
+        lower = solution-lower s2.triples s3.triples missed levels images falls found;
         solve = λ p. found.at p ∙ ap (λ (g : Function). solved levels g p) (missed-path ∙ ap (λ l. misses levels l (function_of s0.triples f)) (sym e));
         within = λ ls d there0. let there : IsListed ls level = subst (IsListed ls) e there0 in (
           grown-depends s1 s3 (Grows-then s1 s2 s3 g2 g3) node ls wn (node-depends ls d there),
@@ -295,6 +299,27 @@ substituted-alike ts images ls within p q h k there = elim (cases-image (image_o
   | inr e ↦ ap (λ o. option_map_or (λ n. function_of ts n.0 p) o (p k)) e ∙ h k there ∙ sym (ap (λ o. option_map_or (λ n. function_of ts n.0 q) o (q k)) e)
 ]
 
+-- no more pass than there are
+passing-le : (p : ℕ → Bool) (xs : List ℕ) → length (filter p xs) ≤ length xs
+passing-le p [] = omega arith
+passing-le p (x ∷ xs) = elim (p x) as (λ b. length (cond b (x ∷ filter p xs) (filter p xs)) ≤ length (x ∷ xs)) [
+  | true ↦ omega (arith, passing-le p xs)
+  | false ↦ omega (arith, passing-le p xs)
+]
+
+pub replaced-at-once : (n : ℕ) (images : Images) (s t : Store) → SubstituteRoom n images s t → ReplacedRoom n images s t
+replaced-at-once n images s t room = record { most = λ ls w. let m = room.most ls ls w in omega arith }
+
+pub replaced-one-by-one : (n : ℕ) (images : Images) (s t : Store) → ComposedRoom n images s t → ReplacedRoom n images s t
+replaced-one-by-one n images s t room = record {
+  most = λ ls w.
+      let m = room.most ls w in
+      let short = below_pow (length ls) in
+      let few : length (filter (is_replaced images) ls) ≤ 2 ^ length ls = omega (arith, passing-le (is_replaced images) ls, short) in
+      let q : length (filter (is_replaced images) ls) * (3 * 2 ^ length ls) ≤ 2 ^ length ls * (3 * 2 ^ length ls) = mul-le-mul_right (3 * 2 ^ length ls) few in
+      omega arith;
+}
+
 module _ (s t u : Store) (st : Grows s t) (tu : Grows t u) (values : List Node) (images : Images) (wv : AllNodes s.triples values) (ws : AreNodes s.triples images)
     (i : ℕ) (lt : i < length values) (nodes : List Node) (wn : AllNodes t.triples nodes) where
   abbrev v : Node
@@ -320,19 +345,19 @@ module _ (s t u : Store) (st : Grows s t) (tu : Grows t u) (values : List Node) 
         | inr other ↦ image-is-node ps l m h.1 (sym (ap (λ b. if b then Some p.1 else image_of ps l) other) ∙ e)
       ]
 
-  pub put-room : ((ls : List ℕ) → AllDepend s.triples values ls → ImagesWithin s.triples images ls → AllDepend t.triples nodes ls × (length t.triples ≤ length s.triples + i * (2 ^ length ls * 2 ^ length ls))) →
-      SubstituteRoom v.0 images t u → (ls : List ℕ) → AllDepend s.triples values ls → ImagesWithin s.triples images ls → length u.triples ≤ length s.triples + (i + 1) * (2 ^ length ls * 2 ^ length ls)
+  pub put-room : ((ls : List ℕ) → AllDepend s.triples values ls → ImagesWithin s.triples images ls → AllDepend t.triples nodes ls × (length t.triples ≤ length s.triples + i * (3 * (2 ^ length ls * 2 ^ length ls)))) →
+      ReplacedRoom v.0 images t u → (ls : List ℕ) → AllDepend s.triples values ls → ImagesWithin s.triples images ls → length u.triples ≤ length s.triples + (i + 1) * (3 * (2 ^ length ls * 2 ^ length ls))
   put-room before room ls d within =
-      let b : length t.triples ≤ length s.triples + i * (2 ^ length ls * 2 ^ length ls) = (before ls d within).1 in
-      let m = room.most ls ls (put-spreads ls d within) in
+      let b : length t.triples ≤ length s.triples + i * (3 * (2 ^ length ls * 2 ^ length ls)) = (before ls d within).1 in
+      let m = room.most ls (put-spreads ls d within) in
       omega arith
 
-  pub put-room-within : ((ls : List ℕ) → AllDepend s.triples values ls → ImagesWithin s.triples images ls → AllDepend t.triples nodes ls × (length t.triples ≤ length s.triples + i * (2 ^ length ls * 2 ^ length ls))) →
-      SubstituteRoom v.0 images t u → PutRoom values images s u
+  pub put-room-within : ((ls : List ℕ) → AllDepend s.triples values ls → ImagesWithin s.triples images ls → AllDepend t.triples nodes ls × (length t.triples ≤ length s.triples + i * (3 * (2 ^ length ls * 2 ^ length ls)))) →
+      ReplacedRoom v.0 images t u → PutRoom values images s u
   put-room-within before room = record {
     most = λ ls d within.
         let b = put-room before room ls d within in
-        let m : (i + 1) * (2 ^ length ls * 2 ^ length ls) ≤ length values * (2 ^ length ls * 2 ^ length ls) = mul-le-mul_right (2 ^ length ls * 2 ^ length ls) (let h : i + 1 ≤ length values = omega arith in h) in
+        let m : (i + 1) * (3 * (2 ^ length ls * 2 ^ length ls)) ≤ length values * (3 * (2 ^ length ls * 2 ^ length ls)) = mul-le-mul_right (3 * (2 ^ length ls * 2 ^ length ls)) (let h : i + 1 ≤ length values = omega arith in h) in
         omega arith;
   }
 

@@ -84,7 +84,7 @@ depend-all ts (n ∷ ns) ls more d = (depends-more ts n.0 ls more d.0, depend-al
 
 -- what so many leaves add at most
 abbrev pub leaf_bound : List ℕ → ℕ → ℕ
-leaf_bound ls m = (12 * (length ls + m + 1) + m) * (2 ^ (length ls + m) * 2 ^ (length ls + m))
+leaf_bound ls m = (12 * (length ls + m + 1) + 3 * m) * (2 ^ (length ls + m) * 2 ^ (length ls + m))
 
 pub length-all : (ls : List ℕ) (first m : ℕ) → length (all_levels ls first m) ≡ length ls + m
 length-all ls first m = length-append ls (numbers_from first m) ∙ ap (λ k. length ls + k) (length-numbers first m)
@@ -102,18 +102,18 @@ pub room-next : (s t u : Store) (first level i m : ℕ) (left : List Node) (d : 
 room-next s t u first level i m [] d ls some few lt e dep before room = absurd (omega arith)
 room-next s t u first level i m (f ∷ later) d ls some few lt e dep before room =
     let there : IsListed (all_levels ls first m) level = subst (IsListed (all_levels ls first m)) e (listed-right ls (numbers_from first m) (first + i) (listed-number first m i lt)) in
-    let r : length u.triples ≤ length t.triples + (12 * (length ls + m + 1) + length later) * (2 ^ (length ls + m) * 2 ^ (length ls + m)) =
-    subst (λ w. length u.triples ≤ length t.triples + (12 * (w + 1) + length later) * (2 ^ w * 2 ^ w)) (length-all ls first m) (room.most (all_levels ls first m) dep.0 dep.1 there) in
-    let b : (12 * (length ls + m + 1) + length later) * (2 ^ (length ls + m) * 2 ^ (length ls + m)) ≤ leaf_bound ls m =
-    mul-le-mul_right (2 ^ (length ls + m) * 2 ^ (length ls + m)) (let h : 12 * (length ls + m + 1) + length later ≤ 12 * (length ls + m + 1) + m = omega arith in h) in
+    let r : length u.triples ≤ length t.triples + (12 * (length ls + m + 1) + 3 * length later) * (2 ^ (length ls + m) * 2 ^ (length ls + m)) =
+    subst (λ w. length u.triples ≤ length t.triples + (12 * (w + 1) + 3 * length later) * (2 ^ w * 2 ^ w)) (length-all ls first m) (room.most (all_levels ls first m) dep.0 dep.1 there) in
+    let b : (12 * (length ls + m + 1) + 3 * length later) * (2 ^ (length ls + m) * 2 ^ (length ls + m)) ≤ leaf_bound ls m =
+    mul-le-mul_right (2 ^ (length ls + m) * 2 ^ (length ls + m)) (let h : 12 * (length ls + m + 1) + 3 * length later ≤ 12 * (length ls + m + 1) + 3 * m = omega arith in h) in
     let g : (i + 1) * leaf_bound ls m ≡ i * leaf_bound ls m + leaf_bound ls m = omega arith in
     omega (arith, r, b, g, before)
 
-total-sum : (m i w q : ℕ) → i ≤ m → m ≤ w → 0 < q → i * ((12 * (w + 1) + m) * q) < 64 * (m + 1) * (w + 1) * (4 * q)
+total-sum : (m i w q : ℕ) → i ≤ m → m ≤ w → 0 < q → i * ((12 * (w + 1) + 3 * m) * q) < 64 * (m + 1) * (w + 1) * (4 * q)
 total-sum m i w q le few pos =
-    let a : (12 * (w + 1) + m) * q ≤ (13 * (w + 1)) * q = mul-le-mul_right q (let h : 12 * (w + 1) + m ≤ 13 * (w + 1) = omega arith in h) in
-    let b : i * ((12 * (w + 1) + m) * q) ≤ i * ((13 * (w + 1)) * q) = mul-le-mul_left i a in
-    let c : i * ((13 * (w + 1)) * q) ≤ m * ((13 * (w + 1)) * q) = mul-le-mul_right ((13 * (w + 1)) * q) le in
+    let a : (12 * (w + 1) + 3 * m) * q ≤ (15 * (w + 1)) * q = mul-le-mul_right q (let h : 12 * (w + 1) + 3 * m ≤ 15 * (w + 1) = omega arith in h) in
+    let b : i * ((12 * (w + 1) + 3 * m) * q) ≤ i * ((15 * (w + 1)) * q) = mul-le-mul_left i a in
+    let c : i * ((15 * (w + 1)) * q) ≤ m * ((15 * (w + 1)) * q) = mul-le-mul_right ((15 * (w + 1)) * q) le in
     omega arith
 
 -- so many leaves are within the bound

@@ -8,7 +8,8 @@ use Rattle.cb_dd.specs.declared.Node.{Node}
 use Rattle.cb_dd.specs.Diagram.{Store, IsNode, function_of}
 use Rattle.cb_ops.specs.Ops.{DependsOn, IsFree, StandsFor}
 use Rattle.cb_ops.specs.Support.{IsListed}
-use Rattle.cb_ops.specs.Substitute.{Images, AreNodes, substituted}
+use Rattle.cb_ops.specs.Substitute.{Images, AreNodes, Spreads, substituted}
+use Rattle.cb_ops.specs.Composed.{AreLower}
 use Rattle.std.specs.List.Sorted.{IsStrictlyIncreasing}
 use Rattle.cb_boole.specs.Elimination.{Function, DependsOnly, IsAway, solved}
 use Rattle.cb_solution.specs.Solution.{ImagesWithin}
@@ -50,7 +51,7 @@ pub record RestRoom (f : ℕ) (count : ℕ) (old new : Store) : Type 0 where
 pub record PickRoom (f level : ℕ) (count : ℕ) (old new : Store) : Type 0 where
   pub most : (ls : List ℕ) → DependsOn old.triples f ls → IsListed ls level → length new.triples ≤ length old.triples + (count * (6 * 2 ^ length ls) + 4 * 2 ^ length ls)
 
--- a node's parametric function, and the images of the levels that make the node so
+-- a node's parametric function, and the images of the levels that make the node so; none depends on a greater level that has one
 pub record IsLeaf (old new : List Triple) (constants first n : ℕ) (f node : ℕ) (images : Images) : Type 0 where
   pub levels : List ℕ
   pub are : AreFor constants first n (function_of old f) levels
@@ -58,6 +59,7 @@ pub record IsLeaf (old new : List Triple) (constants first n : ℕ) (f node : �
   pub function : StandsFor new node (parametric levels (first + n) (function_of old f))
   pub are_nodes : AreNodes new images
   pub rise : IsStrictlyIncreasing (map (λ i. i.0) images)
+  pub lower : AreLower new images
   pub solve : (p : Bits) → substituted new images p ≡ solved levels (misses levels (first + n) (function_of old f)) p
   pub within : (ls : List ℕ) → DependsOn old f ls → IsListed ls (first + n) → DependsOn new node ls × ImagesWithin new images ls
 
@@ -72,10 +74,14 @@ pub record ArePutIn (old new : List Triple) (images : Images) (values next : Lis
   pub functions : functions_of new next ≡ map (λ g p. g (substituted old images p)) (functions_of old values)
   pub within : (ls : List ℕ) → AllDepend old values ls → ImagesWithin old images ls → AllDepend new next ls
 
+-- nodes that putting the images into one node adds at most
+pub record ReplacedRoom (n : ℕ) (images : Images) (old new : Store) : Type 0 where
+  pub most : (ls : List ℕ) → Spreads old.triples n images ls ls → length new.triples ≤ length old.triples + 3 * (2 ^ length ls * 2 ^ length ls)
+
 -- nodes that it adds at most
 pub record PutRoom (values : List Node) (images : Images) (old new : Store) : Type 0 where
   pub most : (ls : List ℕ) → AllDepend old.triples values ls → ImagesWithin old.triples images ls →
-      length new.triples ≤ length old.triples + length values * (2 ^ length ls * 2 ^ length ls)
+      length new.triples ≤ length old.triples + length values * (3 * (2 ^ length ls * 2 ^ length ls))
 
 -- one leaf is settled: its parametric function, and the leaves that follow with the solution put in
 pub record IsStep (old new : List Triple) (constants first n : ℕ) (f : ℕ) (later : List Node) (node : ℕ) (next : List Node) : Type 0 where
@@ -90,7 +96,7 @@ pub record IsStep (old new : List Triple) (constants first n : ℕ) (f : ℕ) (l
 -- nodes that it adds at most
 pub record StepRoom (f level : ℕ) (later : List Node) (old new : Store) : Type 0 where
   pub most : (ls : List ℕ) → DependsOn old.triples f ls → AllDepend old.triples later ls → IsListed ls level →
-      length new.triples ≤ length old.triples + (12 * (length ls + 1) + length later) * (2 ^ length ls * 2 ^ length ls)
+      length new.triples ≤ length old.triples + (12 * (length ls + 1) + 3 * length later) * (2 ^ length ls * 2 ^ length ls)
 
 -- the parametric form adds fewer nodes, for each list of levels on which the leaves depend alone
 pub record ParametricRoom (values : List Node) (old new : Store) : Type 0 where

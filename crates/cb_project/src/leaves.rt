@@ -7,12 +7,13 @@ ghost use Rattle.cb_model.specs.Bits.{Bits};
 ghost use Rattle.cb_model.specs.Outside.{Rose};
 ghost use Rattle.cb_dd.specs.Diagram.{IsNode, function_of};
 ghost use Rattle.cb_ops.specs.Ops.{Grows, StandsFor};
-ghost use Rattle.cb_ops.specs.Substitute.{AreNodes};
+ghost use Rattle.cb_ops.specs.Substitute.{AreNodes, substituted};
+ghost use Rattle.cb_ops.specs.Composed.{AreLower};
 ghost use Rattle.cb_boole.specs.Elimination.{Function, DependsOnly, rest};
 ghost use Rattle.cb_solution.specs.Solution.{IsFalling};
 ghost use Rattle.cb_boole.specs.Parametric.{parametric};
 ghost use Rattle.cb_boole.specs.Stages.{AreOwn};
-ghost use Rattle.cb_project.specs.Leaves.{functions_of, AllNodes, AllBelow, AreParametric, AreInner, RestRoom, PickRoom, IsLeaf, LeafRoom, ArePutIn, PutRoom, IsStep, StepRoom, ParametricRoom};
+ghost use Rattle.cb_project.specs.Leaves.{functions_of, AllNodes, AllBelow, AreParametric, AreInner, RestRoom, PickRoom, IsLeaf, LeafRoom, ArePutIn, PutRoom, ReplacedRoom, IsStep, StepRoom, ParametricRoom};
 
 use cb_dd::{Node, Stop};
 use cb_ops::Ops;
@@ -122,16 +123,46 @@ fn leaf_of(
     }
 }
 
+/// How nodes are put in the place of levels.
+#[derive(Clone, Copy)]
+pub enum Way {
+    /// All at once, in one walk: for bits in the place of bits.
+    AtOnce,
+    /// One level after another, where no node depends on a greater level that is replaced.
+    OneByOne,
+}
+
+// The node with the levels' images put in.
+fn replaced(ops: &mut Ops, value: Node, images: &[(u32, Node)], way: Way) -> Result<Node, Stop>
+    requires value { IsNode ops.old.triples value.0 }
+    requires images { AreNodes ops.old.triples images.now }
+    requires rise { IsStrictlyIncreasing (map (λ i. i.0) images.now) }
+    requires lower { way ≡ Way.OneByOne → AreLower ops.old.triples images.now }
+    ensures is_node { IfOk result (λ n. IsNode ops.new.triples n.0) }
+    ensures function { IfOk result (λ n. StandsFor ops.new.triples n.0 (λ p. function_of ops.old.triples value.0 (substituted ops.old.triples images.now p))) }
+    ensures grows { Grows ops.old ops.new }
+    ensures room { ReplacedRoom value.0 images.now ops.old ops.new }
+    ensures full { result ≡ Err Stop.Nodes → length ops.new.triples ≡ ops.new.budget }
+    ensures rose { result ≡ Err Stop.Nodes → Rose ops.old.fulls ops.new.fulls }
+{
+    match way {
+        Way::AtOnce => ops.substitute(value, images),
+        Way::OneByOne => ops.compose_all(value, images),
+    }
+}
+
 /// The nodes with the levels' images put in.
 pub fn put_in(
     alloc: Global,
     ops: &mut Ops,
     values: &[Node],
     images: &[(u32, Node)],
+    way: Way,
 ) -> Result<Vec<Node>, Stop>
     requires values { AllNodes ops.old.triples values.now }
     requires images { AreNodes ops.old.triples images.now }
     requires rise { IsStrictlyIncreasing (map (λ i. i.0) images.now) }
+    requires lower { way ≡ Way.OneByOne → AreLower ops.old.triples images.now }
     ensures put_in { IfOk result (λ v. ArePutIn ops.old.triples ops.new.triples images.now values.now v.items) }
     ensures grows { Grows ops.old ops.new }
     ensures room { PutRoom values.now images.now ops.old ops.new }
@@ -140,7 +171,7 @@ pub fn put_in(
 {
     let mut nodes = Vec::new(alloc);
     for value in values {
-        let node = ops.substitute(*value, images)?;
+        let node = replaced(ops, *value, images, way)?;
         let Ok(_) = nodes.push(node) else {
             return Err(Stop::Memory);
         };
@@ -170,7 +201,7 @@ fn step(
     ensures rose { result ≡ Err Stop.Nodes → Rose ops.old.fulls ops.new.fulls }
 {
     let found = leaf_of(alloc, ops, f, constants, first, parameter)?;
-    let next = put_in(alloc, ops, later, &found.images)?;
+    let next = put_in(alloc, ops, later, &found.images, Way::OneByOne)?;
     Ok((found.node, next))
 }
 

@@ -13,7 +13,7 @@ ghost use Rattle.cb_project.specs.Answer.{AreSlots, slot_nodes};
 ghost use Rattle.cb_project.specs.Leaves.{functions_of, AllBelow, AllNodes, AreParametric, ParametricRoom};
 ghost use Rattle.cb_project.specs.Renaming.{AreImages, AreNamed, IsNamedNext, IsRenaming, names_in};
 
-use crate::leaves::{leaf_nodes, put_in};
+use crate::leaves::{Way, leaf_nodes, put_in};
 use cb_dd::{Node, Stop};
 use cb_elim::{Free, Slot, Store};
 use cb_ops::Ops;
@@ -158,7 +158,7 @@ pub fn renamed_nodes(
     ensures rose { result ≡ Err Stop.Nodes → Rose ops.old.fulls ops.new.fulls }
 {
     let images = parameters(alloc, ops, names)?;
-    let nodes = put_in(alloc, ops, values, &images)?;
+    let nodes = put_in(alloc, ops, values, &images, Way::AtOnce)?;
     Ok(nodes)
 }
 

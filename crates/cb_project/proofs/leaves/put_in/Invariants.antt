@@ -11,5 +11,5 @@ invariant-loop-value l = record {
   functions : functions_of l.ops.triples l.nodes.items ≡ map (λ g p. g (substituted l.fn.ops.triples l.images p)) (functions_of l.fn.ops.triples (take l.value-index l.values));
   grows : Grows l.fn.ops l.ops;
   within : (ls : List ℕ) → AllDepend l.fn.ops.triples l.values ls → ImagesWithin l.fn.ops.triples l.images ls →
-      AllDepend l.ops.triples l.nodes.items ls × (length l.ops.triples ≤ length l.fn.ops.triples + l.value-index * (2 ^ length ls * 2 ^ length ls));
+      AllDepend l.ops.triples l.nodes.items ls × (length l.ops.triples ≤ length l.fn.ops.triples + l.value-index * (3 * (2 ^ length ls * 2 ^ length ls)));
 }
