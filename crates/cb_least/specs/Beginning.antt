@@ -1,0 +1,39 @@
+-- The search for the least input at which a diagram is 1, where the inputs have levels in any order.
+use Rattle.std.specs.Prelude.{◌≡◌, ◌⊎◌, ◌↔◌, ℕ, ◌+◌, ◌<◌, ◌≤◌, Bool, true, false, List, length, get_or, Some}
+use Rattle.cb_model.specs.Bits.{Bits}
+use Rattle.cb_dd.specs.declared.Triple.{Triple}
+use Rattle.cb_dd.specs.declared.Node.{Node}
+use Rattle.cb_dd.specs.Diagram.{function_of, parts_of}
+
+-- the assignment has these bits at the inputs below a number; `order` has the input of each level
+abbrev pub Begins : List ℕ → List Bool → ℕ → Bits → Type 0
+Begins order bits count a = (k : ℕ) → k < length order → get_or order k 0 < count → a k ≡ get_or bits (get_or order k 0) false
+
+-- node n is 1 at some assignment that begins with these bits
+abbrev pub CanBegin : List Triple → List ℕ → List Bool → ℕ → ℕ → Type 0
+CanBegin ts order bits count n = (a : Bits) × (Begins order bits count a × (function_of ts n a ≡ true))
+
+-- node n is 1 at some assignment that begins with the bits as far as a number exactly where it is below this one
+pub record IsReach (ts : List Triple) (order : List ℕ) (bits : List Bool) (next n reach : ℕ) : Type 0 where
+  pub low : reach ≤ length order + 1
+  pub is : (count : ℕ) → next ≤ count → count ≤ length order → (count < reach) ↔ CanBegin ts order bits count n
+
+-- no input from this one on has a bit yet
+pub record AreBits (order : List ℕ) (bits : List Bool) (next : ℕ) : Type 0 where
+  pub long : length bits ≡ length order
+  pub within : next ≤ length order
+  pub rest : (i : ℕ) → next ≤ i → get_or bits i false ≡ false
+
+-- at the first input where the assignment has another bit, it has 1
+abbrev pub IsAbove : List ℕ → List Bool → ℕ → Bits → Type 0
+IsAbove order bits next a = (k : ℕ) × ((k < length order) × (get_or order k 0 < next) × Begins order bits (get_or order k 0) a × (a k ≡ true) × (get_or bits (get_or order k 0) false ≡ false))
+
+-- no assignment at which the node is 1 begins with lesser bits
+abbrev pub AreLeast : List Triple → List ℕ → List Bool → ℕ → ℕ → Type 0
+AreLeast ts order bits next n = (a : Bits) → function_of ts n a ≡ true → Begins order bits next a ⊎ IsAbove order bits next a
+
+-- the nodes of a diagram are marked: its root, and with each node its children
+pub record AreMarks (ts : List Triple) (root low : ℕ) (marks : List Bool) : Type 0 where
+  pub long : length marks ≡ root + 1
+  pub root_in : get_or marks root false ≡ true
+  pub closed : (n level : ℕ) (lo hi : Node) → low < n → n ≤ root → get_or marks n false ≡ true → parts_of ts n ≡ Some (level, lo, hi) → (get_or marks lo.0 false ≡ true) × (get_or marks hi.0 false ≡ true)
