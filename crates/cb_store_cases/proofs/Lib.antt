@@ -1,2 +1,3 @@
 pub mod Moments
+mod Constants
 mod Tried

@@ -2,6 +2,8 @@
 #![tactic(auto)]
 
 #[cfg(test)]
+mod forms;
+#[cfg(test)]
 mod full;
 #[cfg(test)]
 mod products;
@@ -11,6 +13,8 @@ mod setup;
 mod solutions;
 #[cfg(test)]
 mod systems;
+#[cfg(test)]
+mod together;
 #[cfg(test)]
 mod trails;
 #[cfg(test)]

@@ -1,4 +1,4 @@
-ghost use Rattle.std.specs.Prelude.{◌≡◌, ◌≤◌, length, IfOk, OnOk};
+ghost use Rattle.std.specs.Prelude.{◌≡◌, ◌+◌, ◌≤◌, length, IfOk, OnOk};
 ghost use Rattle.cb_elim.specs.Store.{IsStore};
 
 use cb_dd::{Node, Stop};
@@ -17,6 +17,7 @@ fn draw(store: &mut Store, count: u32) -> Result<(), Stop>
     requires few { count ≤ 1000 }
     ensures store { IsStore store.new }
     ensures constants { store.new.constants ≡ 1 }
+    ensures drawn { OnOk result (store.new.drawn ≡ 1 + count) }
     ensures slots { OnOk result (length store.new.slots ≡ count) }
 {
     for _ in 0..count {
@@ -30,6 +31,7 @@ pub(crate) fn with_variables(alloc: Global, budget: usize, count: u32) -> Result
     requires { count ≤ 1000 }
     ensures store { IfOk result (λ s. IsStore s) }
     ensures constants { IfOk result (λ s. s.constants ≡ 1) }
+    ensures drawn { IfOk result (λ s. s.drawn ≡ 1 + count) }
     ensures slots { IfOk result (λ s. length s.slots ≡ count) }
 {
     let Ok(mut store) = Store::new(alloc, 1, budget) else {
