@@ -22,7 +22,7 @@ use Rattle.cb_flat.specs.Accepted.{AcceptedCarries, FlatHasOne}
 use Rattle.cb_flat.specs.Acyclic.{index_or, index_in, wants, instance_graph, SameCycles}
 use Rattle.cb_flat.proofs.Carry.{total_has_one}
 use Rattle.cb_flat.proofs.Flatten.{flatten_carries}
-use Rattle.cb_flat.proofs.Places.{position-cons, position-append-lost, behind, here_or, bytes_eq-refl, position-Some, position-Contains}
+use Rattle.cb_flat.proofs.Places.{position-cons, position-append-lost, behind, here_or, bytes_eq-refl, bytes_eq-same, position-Some, position-Contains}
 use Rattle.cb_flat.proofs.Ordering.{InSequence, Peeled, has-order, numbers-long}
 
 -- ---- gates and earlier modules carry bits
@@ -69,7 +69,7 @@ fits-part earlier i h e = record { carries = (from (kind_named gate_names i.part
         let p = and_parts (length i.ins == (flat_named earlier i.part).inputs) (length i.outs == length (flat_named earlier i.part).outputs) e in
         (named_carries earlier i.part h, sym (eqb-true (length i.ins) (flat_named earlier i.part).inputs p.0), sym (eqb-true (length i.outs) (length (flat_named earlier i.part).outputs) p.1))
 
-fits-all : (earlier : List Flat) (is : List Instance) → Each IsCarrying earlier → instances_fault earlier is ≡ None → Each (FitsPart earlier) is
+pub fits-all : (earlier : List Flat) (is : List Instance) → Each IsCarrying earlier → instances_fault earlier is ≡ None → Each (FitsPart earlier) is
 fits-all earlier [] h e = tt
 fits-all earlier (i ∷ is) h e = from (is_part earlier i.part) (pins_fit earlier (kind_named gate_names i.part) i) refl e (fits-all earlier is h)
   where
@@ -81,7 +81,7 @@ fits-all earlier (i ∷ is) h e = from (is_part earlier i.part) (pins_fit earlie
 -- ---- the placed instances
 
 module _ (part : Text → ℕ → Flat) where
-  placed-instance : (at : ℕ) (is : List Instance) (k : ℕ) (p : Placed) → slice_get (placed_from part at is) k ≡ Some p → (slice_get is k ≡ Some p.instance) × (p.flat ≡ part p.instance.part (length p.instance.ins))
+  pub placed-instance : (at : ℕ) (is : List Instance) (k : ℕ) (p : Placed) → slice_get (placed_from part at is) k ≡ Some p → (slice_get is k ≡ Some p.instance) × (p.flat ≡ part p.instance.part (length p.instance.ins))
   placed-instance at [] k p e = absurd (let l : k < 0 = slice_get_within [] k p e in omega arith)
   placed-instance at (i ∷ is) zero p e =
       let o : Placed = record { instance = i; flat = part i.part (length i.ins); first = at } in
@@ -89,7 +89,7 @@ module _ (part : Text → ℕ → Flat) where
       (ap (λ (z : Placed). Some z.instance) same, subst (λ (z : Placed). z.flat ≡ part z.instance.part (length z.instance.ins)) same refl)
   placed-instance at (i ∷ is) (suc k) p e = placed-instance (at + length (part i.part (length i.ins)).gates) is k p e
 
-  placed-there : (at : ℕ) (is : List Instance) (k : ℕ) → k < length is → (p : Placed) × (slice_get (placed_from part at is) k ≡ Some p)
+  pub placed-there : (at : ℕ) (is : List Instance) (k : ℕ) → k < length is → (p : Placed) × (slice_get (placed_from part at is) k ≡ Some p)
   placed-there at [] k l = absurd (omega (arith, l))
   placed-there at (i ∷ is) zero l = (record { instance = i; flat = part i.part (length i.ins); first = at }, refl)
   placed-there at (i ∷ is) (suc k) l = placed-there (at + length (part i.part (length i.ins)).gates) is k (omega (arith, l))
@@ -129,7 +129,7 @@ pub record AtPin (x : Text) (ps : List Placed) (p : Placed) (j : ℕ) : Type 0 w
   pub at : slice_get ps k ≡ Some p
   pub pin : position (bytes_eq x) p.instance.outs ≡ Some j
 
-at-pin : (x : Text) (ps : List Placed) (p : Placed) (j : ℕ) → pin_of x ps ≡ Some (p, j) → AtPin x ps p j
+pub at-pin : (x : Text) (ps : List Placed) (p : Placed) (j : ℕ) → pin_of x ps ≡ Some (p, j) → AtPin x ps p j
 at-pin x [] p j e = absurd (cc)
 at-pin x (q ∷ qs) p j e = from (position (bytes_eq x) q.instance.outs) refl (at-pin x qs p j)
   where
@@ -183,7 +183,7 @@ index-some x (q ∷ qs) (suc k) i e h = from (position (bytes_eq x) q.outs) (ind
 
 -- ---- the graph of the instances
 
-wants-has : (is : List Instance) (xs : List Text) (x : Text) (k : ℕ) → Contains xs x → Contains (index_in x is) k → Contains (wants is xs) k
+pub wants-has : (is : List Instance) (xs : List Text) (x : Text) (k : ℕ) → Contains xs x → Contains (index_in x is) k → Contains (wants is xs) k
 wants-has is [] x k h i = absurd (nothing x h)
 wants-has is (y ∷ ys) x k h i = elim (cons-cases y ys x h) [
   | inl e ↦ Contains-append_left (index_in y is) (wants is ys) k (subst (λ z. Contains (index_in z is) k) (sym e) i)
@@ -197,32 +197,32 @@ wants-from is (y ∷ ys) k h = elim (Contains-append_cases (index_in y is) (want
   | inr t ↦ let r = wants-from is ys k t in (r.0, (cons-later y ys r.0 r.1.0, r.1.1))
 ]
 
-graph-long : (all is : List Instance) → length (map (λ i. wants all i.ins) is) ≡ length is
+pub graph-long : (all is : List Instance) → length (map (λ i. wants all i.ins) is) ≡ length is
 graph-long all [] = refl
 graph-long all (i ∷ is) = ap suc (graph-long all is)
 
-graph-at : (all is : List Instance) (k : ℕ) (i : Instance) → slice_get is k ≡ Some i → order.needs_of (map (λ i. wants all i.ins) is) k ≡ wants all i.ins
+pub graph-at : (all is : List Instance) (k : ℕ) (i : Instance) → slice_get is k ≡ Some i → order.needs_of (map (λ i. wants all i.ins) is) k ≡ wants all i.ins
 graph-at all [] k i e = absurd (let l : k < 0 = slice_get_within [] k i e in omega arith)
 graph-at all (x ∷ is) zero i e = ap (λ (z : Instance). wants all z.ins) (same_Some x i e)
 graph-at all (x ∷ is) (suc k) i e = graph-at all is k i e
 
 -- the instances of the placed parts are the module's
-placed-are : (part : Text → ℕ → Flat) (at : ℕ) (is : List Instance) → map (λ (p : Placed). p.instance) (placed_from part at is) ≡ is
+pub placed-are : (part : Text → ℕ → Flat) (at : ℕ) (is : List Instance) → map (λ (p : Placed). p.instance) (placed_from part at is) ≡ is
 placed-are part at [] = refl
 placed-are part at (i ∷ is) = ap (λ l. i ∷ l) (placed-are part (at + length (part i.part (length i.ins)).gates) is)
 
-each-get : {X : Type 0} (P : X → Type 0) (xs : List X) (k : ℕ) (x : X) → Each P xs → slice_get xs k ≡ Some x → P x
+pub each-get : {X : Type 0} (P : X → Type 0) (xs : List X) (k : ℕ) (x : X) → Each P xs → slice_get xs k ≡ Some x → P x
 each-get P [] k x h e = absurd (let l : k < 0 = slice_get_within [] k x e in omega arith)
 each-get P (y ∷ ys) zero x h e = subst P (same_Some y x e) h.0
 each-get P (y ∷ ys) (suc k) x h e = each-get P ys k x h.1 e
 
-all-holds : {X : Type 0} (p : X → Bool) (xs : List X) → list_all p xs ≡ true → (x : X) → Contains xs x → p x ≡ true
+pub all-holds : {X : Type 0} (p : X → Bool) (xs : List X) → list_all p xs ≡ true → (x : X) → Contains xs x → p x ≡ true
 all-holds p [] e x h = absurd (nothing x h)
 all-holds p (y ∷ ys) e x h =
     let a = and_parts (p y) (list_all p ys) e in
     elim (cons-cases y ys x h) [ inl s ↦ ap p (sym s) ∙ a.0 | inr t ↦ all-holds p ys a.1 x t ]
 
-counted : {X : Type 0} (p : X → Bool) → List X → ℕ
+pub counted : {X : Type 0} (p : X → Bool) → List X → ℕ
 counted p [] = 0
 counted p (x ∷ xs) = cond (p x) (1 + counted p xs) (counted p xs)
 
@@ -242,7 +242,7 @@ unfolding counted
 count-same p xs = is_count_by (counted p) p refl (λ y ys. refl) xs
 
 -- what is counted once has a place
-counted-found : {X : Type 0} (p : X → Bool) (xs : List X) → count_by p xs ≡ 1 → (j : ℕ) × (position p xs ≡ Some j)
+pub counted-found : {X : Type 0} (p : X → Bool) (xs : List X) → count_by p xs ≡ 1 → (j : ℕ) × (position p xs ≡ Some j)
 unfolding counted
 counted-found p xs e = counted-place p xs (is_count_by (counted p) p refl (λ y ys. refl) xs ∙ e)
 
@@ -279,14 +279,14 @@ module _ (earlier : List Flat) (m : Module) where
 
   module _ (fit : Each (FitsPart earlier) m.instances) (driven : all_driven_once m ≡ true) (acyclic : HasCycle m → ⊥) where
     -- a placed part fits
-    placed-fits : (k : ℕ) (p : Placed) → slice_get placed k ≡ Some p → IsCarrying p.flat × (p.flat.inputs ≡ length p.instance.ins) × (length p.flat.outputs ≡ length p.instance.outs)
+    pub placed-fits : (k : ℕ) (p : Placed) → slice_get placed k ≡ Some p → IsCarrying p.flat × (p.flat.inputs ≡ length p.instance.ins) × (length p.flat.outputs ≡ length p.instance.outs)
     placed-fits k p at =
         let i = placed-instance (part_of earlier) 0 m.instances k p at in
         let f : FitsPart earlier p.instance = each-get (FitsPart earlier) m.instances k p.instance fit i.0 in
         (subst IsCarrying (sym i.1) f.carries, ap (λ (z : Flat). z.inputs) i.1 ∙ f.ins, ap (λ (z : Flat). length z.outputs) i.1 ∙ f.outs)
 
     -- a net of the module is an input, or has a pin
-    net-driven : (x : Text) → Contains (nets m) x → ((i : ℕ) × (position (bytes_eq x) m.inputs ≡ Some i)) ⊎ ((r : Placed × ℕ) × (pin_of x placed ≡ Some r))
+    pub net-driven : (x : Text) → Contains (nets m) x → ((i : ℕ) × (position (bytes_eq x) m.inputs ≡ Some i)) ⊎ ((r : Placed × ℕ) × (pin_of x placed ≡ Some r))
     net-driven x h =
         let one : (count_by (bytes_eq x) (drivers m) == 1) ≡ true = all-holds (λ y. count_by (bytes_eq y) (drivers m) == 1) (nets m) driven x h in
         let found = counted-found (bytes_eq x) (drivers m) (eqb-true (count_by (bytes_eq x) (drivers m)) 1 one) in
@@ -303,7 +303,7 @@ module _ (earlier : List Flat) (m : Module) where
             rest (Some k) q b = pin-some (part_of earlier) x 0 m.instances k q
 
     -- it is reached behind the instances of its index
-    net-reached : (x : Text) (done : List ℕ) → Contains (nets m) x → ((k : ℕ) → Contains (index_in x m.instances) k → Contains done k) → Reaches m placed done x
+    pub net-reached : (x : Text) (done : List ℕ) → Contains (nets m) x → ((k : ℕ) → Contains (index_in x m.instances) k → Contains done k) → Reaches m placed done x
     net-reached x done h f = elim (net-driven x h) [
       | inl i ↦ from_input i.0 i.1
       | inr r ↦
@@ -320,7 +320,7 @@ module _ (earlier : List Flat) (m : Module) where
       ins-reached done xs (λ y h. n y (cons-later x xs y h)) (λ k h. f k (Contains-append_right (index_in x m.instances) (wants m.instances xs) k h)),
     )
 
-    pin-is-net : (k : ℕ) (i : Instance) → slice_get m.instances k ≡ Some i → (x : Text) → Contains i.ins x → Contains (nets m) x
+    pub pin-is-net : (k : ℕ) (i : Instance) → slice_get m.instances k ≡ Some i → (x : Text) → Contains i.ins x → Contains (nets m) x
     pin-is-net k i e x h = Contains-append_right (drivers m ++ m.outputs) (flat_map (λ i. i.ins) m.instances) x (flat-has m.instances k i e x h)
       where
         flat-has : (is : List Instance) (k : ℕ) (i : Instance) → slice_get is k ≡ Some i → (x : Text) → Contains i.ins x → Contains (flat_map (λ i. i.ins) is) x
@@ -359,7 +359,7 @@ module _ (earlier : List Flat) (m : Module) where
 
 -- ---- the graph's cycles are the module's
 
-counted-append : {X : Type 0} (p : X → Bool) (xs ys : List X) → counted p (xs ++ ys) ≡ counted p xs + counted p ys
+pub counted-append : {X : Type 0} (p : X → Bool) (xs ys : List X) → counted p (xs ++ ys) ≡ counted p xs + counted p ys
 unfolding counted
 counted-append p [] ys = let z : counted p ys ≡ 0 + counted p ys = omega arith in z
 counted-append {X = X} p (x ∷ xs) ys = step (p x) (counted-append p xs ys)
@@ -368,7 +368,7 @@ counted-append {X = X} p (x ∷ xs) ys = step (p x) (counted-append p xs ys)
     step true e = omega (arith, e)
     step false e = e
 
-counted-some : (x : Text) (xs : List Text) → Contains xs x → 1 ≤ counted (bytes_eq x) xs
+pub counted-some : (x : Text) (xs : List Text) → Contains xs x → 1 ≤ counted (bytes_eq x) xs
 unfolding counted
 counted-some x [] h = absurd (nothing x h)
 counted-some x (y ∷ ys) h = elim (cons-cases y ys x h) [
@@ -380,20 +380,37 @@ counted-some x (y ∷ ys) h = elim (cons-cases y ys x h) [
     step true l = omega (arith, l)
     step false l = l
 
-outs_in : List Instance → List Text
+pub counted-here : (x y : Text) (ys : List Text) → bytes_eq x y ≡ true → counted (bytes_eq x) (y ∷ ys) ≡ 1 + counted (bytes_eq x) ys
+unfolding counted
+counted-here x y ys q = ap (λ b. cond b (1 + counted (bytes_eq x) ys) (counted (bytes_eq x) ys)) q
+
+pub counted-there : (x y : Text) (ys : List Text) → bytes_eq x y ≡ false → counted (bytes_eq x) (y ∷ ys) ≡ counted (bytes_eq x) ys
+unfolding counted
+counted-there x y ys q = ap (λ b. cond b (1 + counted (bytes_eq x) ys) (counted (bytes_eq x) ys)) q
+
+pub counted-lost : (x : Text) (ys : List Text) → (Contains ys x → ⊥) → counted (bytes_eq x) ys ≡ 0
+unfolding counted
+counted-lost x [] f = refl
+counted-lost x (y ∷ ys) f = step (bytes_eq x y) refl (counted-lost x ys (λ h. f (cons-later y ys x h)))
+  where
+    step : (b : Bool) → bytes_eq x y ≡ b → counted (bytes_eq x) ys ≡ 0 → counted (bytes_eq x) (y ∷ ys) ≡ 0
+    step true q r = absurd (f (subst (λ z. Contains (z ∷ ys) x) (bytes_eq-same x y q) (cons-here x ys)))
+    step false q r = counted-there x y ys q ∙ r
+
+pub outs_in : List Instance → List Text
 outs_in is = flat_map (λ i. i.outs) is
 
-outs-cons : (i : Instance) (is : List Instance) (x : Text) → counted (bytes_eq x) (outs_in (i ∷ is)) ≡ counted (bytes_eq x) i.outs + counted (bytes_eq x) (outs_in is)
+pub outs-cons : (i : Instance) (is : List Instance) (x : Text) → counted (bytes_eq x) (outs_in (i ∷ is)) ≡ counted (bytes_eq x) i.outs + counted (bytes_eq x) (outs_in is)
 unfolding outs_in
 outs-cons i is x = ap (counted (bytes_eq x)) (flat_map-cons (λ (i : Instance). i.outs) i is) ∙ counted-append (bytes_eq x) i.outs (flat_map (λ i. i.outs) is)
 
-outs-one : (is : List Instance) (k : ℕ) (i : Instance) (x : Text) → slice_get is k ≡ Some i → Contains i.outs x → 1 ≤ counted (bytes_eq x) (outs_in is)
+pub outs-one : (is : List Instance) (k : ℕ) (i : Instance) (x : Text) → slice_get is k ≡ Some i → Contains i.outs x → 1 ≤ counted (bytes_eq x) (outs_in is)
 outs-one [] k i x e h = absurd (let l : k < 0 = slice_get_within [] k i e in omega arith)
 outs-one (y ∷ is) zero i x e h = let a = outs-cons y is x in let b = counted-some x y.outs (subst (λ (z : Instance). Contains z.outs x) (sym (same_Some y i e)) h) in omega (arith, a, b)
 outs-one (y ∷ is) (suc k) i x e h = let a = outs-cons y is x in let b = outs-one is k i x e h in omega (arith, a, b)
 
 -- a net that is counted once is given by one instance
-outs-two : (is : List Instance) (k j : ℕ) (a b : Instance) (x : Text) → slice_get is k ≡ Some a → slice_get is j ≡ Some b → Contains a.outs x → Contains b.outs x → k ≢ j → 2 ≤ counted (bytes_eq x) (outs_in is)
+pub outs-two : (is : List Instance) (k j : ℕ) (a b : Instance) (x : Text) → slice_get is k ≡ Some a → slice_get is j ≡ Some b → Contains a.outs x → Contains b.outs x → k ≢ j → 2 ≤ counted (bytes_eq x) (outs_in is)
 outs-two [] k j a b x e f h i ne = absurd (let l : k < 0 = slice_get_within [] k a e in omega arith)
 outs-two (y ∷ is) zero zero a b x e f h i ne = absurd (ne refl)
 outs-two (y ∷ is) zero (suc j) a b x e f h i ne =
@@ -412,16 +429,16 @@ outs-two (y ∷ is) (suc k) (suc j) a b x e f h i ne =
     omega (arith, p, r)
 
 module _ (m : Module) (driven : all_driven_once m ≡ true) where
-  given-once : (x : Text) → Contains (nets m) x → counted (bytes_eq x) (outs_in m.instances) ≤ 1
+  -- a net is counted once among the inputs and the output pins
+  pub drivers-once : (x : Text) → Contains (nets m) x → counted (bytes_eq x) m.inputs + counted (bytes_eq x) (outs_in m.instances) ≡ 1
   unfolding outs_in
-  given-once x h =
+  drivers-once x h =
       let one : (count_by (bytes_eq x) (drivers m) == 1) ≡ true = all-holds (λ y. count_by (bytes_eq y) (drivers m) == 1) (nets m) driven x h in
-      let n : counted (bytes_eq x) (drivers m) ≡ 1 = same_count (drivers m) ∙ eqb-true (count_by (bytes_eq x) (drivers m)) 1 one in
-      let parts = counted-append (bytes_eq x) m.inputs (flat_map (λ i. i.outs) m.instances) in
-      omega (arith, n, parts)
-    where
-      same_count : (xs : List Text) → counted (bytes_eq x) xs ≡ count_by (bytes_eq x) xs
-      same_count xs = count-same (bytes_eq x) xs
+      let n : counted (bytes_eq x) (drivers m) ≡ 1 = count-same (bytes_eq x) (drivers m) ∙ eqb-true (count_by (bytes_eq x) (drivers m)) 1 one in
+      sym (counted-append (bytes_eq x) m.inputs (flat_map (λ i. i.outs) m.instances)) ∙ n
+
+  pub given-once : (x : Text) → Contains (nets m) x → counted (bytes_eq x) (outs_in m.instances) ≤ 1
+  given-once x h = let a = drivers-once x h in omega (arith, a)
 
   feeds-graph : (i j : ℕ) → Feeds m i j → Contains (order.needs_of (instance_graph m) j) i
   feeds-graph i j f =
@@ -463,14 +480,26 @@ is_driven : (b : Bool) (Q : Type 0) → MatchBool b Q (accepted ≡ Some Driven)
 is_driven true Q h = (refl, h)
 is_driven false Q h = absurd (cc)
 
-pub accepted_carries : AcceptedCarries
-accepted_carries earlier m h r =
+-- what an accepted module has
+pub record IsAccepted (earlier : List Flat) (m : Module) : Type 0 where
+  pub faultless : instances_fault earlier m.instances ≡ None
+  pub driven : all_driven_once m ≡ true
+  pub acyclic : HasCycle m → ⊥
+  pub fit : Each (FitsPart earlier) m.instances
+  pub order : List ℕ
+  pub can : CanFlatten earlier m order
+
+pub accepted-has : (earlier : List Flat) (m : Module) → Each IsCarrying earlier → ModuleRefusal earlier m None → IsAccepted earlier m
+accepted-has earlier m h r =
     let a = not_twice (is_part earlier m.name) _ r in
     let b = no_fault (instances_fault earlier m.instances) _ a in
     let c = is_driven (all_driven_once m) _ b.1 in
     let acyclic : HasCycle m → ⊥ = elim c.1 [ inl k ↦ absurd (cc (k.1)) | inr k ↦ k.0 ] in
     let fit : Each (FitsPart earlier) m.instances = fits-all earlier m.instances h b.0 in
-    flatten_carries earlier m (peeled earlier m fit c.0 acyclic).is (can-flatten earlier m fit c.0 acyclic)
+    record { faultless = b.0; driven = c.0; acyclic = acyclic; fit = fit; order = (peeled earlier m fit c.0 acyclic).is; can = can-flatten earlier m fit c.0 acyclic }
+
+pub accepted_carries : AcceptedCarries
+accepted_carries earlier m h r = let a = accepted-has earlier m h r in flatten_carries earlier m a.order a.can
 
 -- ---- facts in order
 

@@ -24,7 +24,7 @@ map-over h (x ∷ xs) ys = ap (λ l. h x ∷ l) (map-over h xs ys)
 
 module _ (inputs : ℕ) (driver : Text → Net) (p : Placed) (f : Filled) (first : f.first ≡ p.first) (ins : f.ins ≡ map (λ x. net_number inputs (driver x)) p.instance.ins) (as_many : p.flat.inputs ≡ length p.instance.ins) where
   -- a pin outward, by numbers
-  net-outward : (n : Net) → NetIn p.flat n → net_number inputs (outward p driver n) ≡ placed_net p.flat.inputs inputs f.first f.ins (net_number p.flat.inputs n)
+  pub net-outward : (n : Net) → NetIn p.flat n → net_number inputs (outward p driver n) ≡ placed_net p.flat.inputs inputs f.first f.ins (net_number p.flat.inputs n)
   net-outward (In i) l =
       let b : nat_lt i p.flat.inputs ≡ true = lt-test i p.flat.inputs l in
       let e : get_or f.ins i 0 ≡ net_number inputs (driver (get_or p.instance.ins i [])) = ap (λ ns. get_or ns i 0) ins ∙ get_or-map (λ x. net_number inputs (driver x)) p.instance.ins i [] 0 (omega (arith, l, as_many)) in
@@ -65,7 +65,7 @@ long-map h [] = refl
 long-map h (x ∷ xs) = ap suc (long-map h xs)
 
 -- the numbered gates of an instance
-instance-right : (flats : ℕ → Flat) (inputs : ℕ) (driver : Text → Net) (p : Placed) (f : Filled) → IsFilled flats inputs driver p f
+pub instance-right : (flats : ℕ → Flat) (inputs : ℕ) (driver : Text → Net) (p : Placed) (f : Filled) → IsFilled flats inputs driver p f
     → map (λ g. (g.0, map (net_number inputs) g.1)) (own_gates driver p) ≡ part_gates (λ q. numbered_gates (flats q)) (λ q. (flats q).inputs) inputs f
 instance-right flats inputs driver p f w = gates-outward inputs driver p f w.first w.ins w.as_many p.flat.gates w.nets ∙ from f.part refl w.part
   where

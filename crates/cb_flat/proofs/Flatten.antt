@@ -165,12 +165,24 @@ module _ (earlier : List Flat) (m : Module) (order : List ℕ) (can : CanFlatten
         ∙ sym (ap (drive (within b) (position (λ y. bytes_eq x y) m.inputs)) e)
   ]
 
+  -- what drives an output of an instance is what drives it in the part, or what drives the instance's own pin
+  one-step : (done : List ℕ) → Stable done → length done < length m.instances → (x : Text) (q : Placed) (j d : ℕ) → slice_get placed d ≡ Some q → pin_of x placed ≡ Some (q, j) → j < length q.flat.outputs → Each (Reaches m placed done) q.instance.ins
+      → position (λ y. bytes_eq x y) m.inputs ≡ None → driver x ≡ outward q driver (get_or q.flat.outputs j (In 0))
+  one-step done s small x q j d at e l reached is =
+      let next : Text → Net = within (length m.instances) in
+      let drives : driver x ≡ outward q next (get_or q.flat.outputs j (In 0)) = ap (λ o. drive next o (pin_of x placed)) is ∙ ap (drive_pin next) e in
+      let same : outward q next (get_or q.flat.outputs j (In 0)) ≡ outward q driver (get_or q.flat.outputs j (In 0)) = same-out q next driver (get_or q.flat.outputs j (In 0))
+      (λ i is2. let w : i < q.flat.inputs = subst (NetIn q.flat) is2 (out-in d q j at l) in
+      s (get_or q.instance.ins i []) (each-at (Reaches m placed done) q.instance.ins i [] reached (pin-in d q i at w)) (length m.instances) (suc (length m.instances)) small (omega arith)) in
+      drives ∙ same
+
   -- ---- what is carried
 
   module _ (zs : List Bool) (wide : length zs ≡ length m.inputs) where
     -- the nets that are reached carry bits, and so do the gates of these instances
     record Carried (done : List ℕ) : Type 0 where
       stable : Stable done
+      drives : (x : Text) (k : ℕ) (p : Placed) (j : ℕ) → Contains done k → slice_get placed k ≡ Some p → pin_of x placed ≡ Some (p, j) → j < length p.flat.outputs → position (λ y. bytes_eq x y) m.inputs ≡ None → driver x ≡ outward p driver (get_or p.flat.outputs j (In 0))
       nets : (x : Text) → Reaches m placed done x → (b : Bool) × Carries whole zs (driver x) b
       gates : (k : ℕ) (p : Placed) → Contains done k → slice_get placed k ≡ Some p → (n : ℕ) → n < length p.flat.gates → (b : Bool) × Carries whole zs (Own (p.first + n)) b
 
@@ -205,6 +217,12 @@ module _ (earlier : List Flat) (m : Module) (order : List ℕ) (can : CanFlatten
     carried-push : (done : List ℕ) (k : ℕ) (p : Placed) → length done < length m.instances → slice_get placed k ≡ Some p → Each (Reaches m placed done) p.instance.ins → Carried done → Carried (done ++ k ∷ [])
     carried-push done k p small at ins c = record {
       stable = stable-push done k p at ins c.stable;
+      drives = λ x d q j h at2 e l is. elim (Contains-push_cases done k d h) [
+        | inl old ↦ c.drives x d q j old at2 e l is
+        | inr same ↦
+            let pq : p ≡ q = same_Some p q (sym at ∙ ap (slice_get placed) same ∙ at2) in
+            one-step done c.stable small x q j d at2 e l (subst (λ (o : Placed). Each (Reaches m placed done) o.instance.ins) pq ins) is
+      ];
       nets = net;
       gates = λ d q h at2 n l. elim (Contains-push_cases done k d h) [
         | inl old ↦ c.gates d q old at2 n l
@@ -228,12 +246,7 @@ module _ (earlier : List Flat) (m : Module) (order : List ℕ) (can : CanFlatten
             here q j e d at2 l reached (Some i) is = c.nets x (from_input i is)
             here q j e d at2 l reached None is =
                 let r = out done c d q at2 reached (get_or q.flat.outputs j (In 0)) (out-in d q j at2 l) in
-                let next : Text → Net = within (length m.instances) in
-                let drives : driver x ≡ outward q next (get_or q.flat.outputs j (In 0)) = ap (λ o. drive next o (pin_of x placed)) is ∙ ap (drive_pin next) e in
-                let same : outward q next (get_or q.flat.outputs j (In 0)) ≡ outward q driver (get_or q.flat.outputs j (In 0)) = same-out q next driver (get_or q.flat.outputs j (In 0))
-                (λ i is2. let w : i < q.flat.inputs = subst (NetIn q.flat) is2 (out-in d q j at2 l) in
-                c.stable (get_or q.instance.ins i []) (each-at (Reaches m placed done) q.instance.ins i [] reached (pin-in d q i at2 w)) (length m.instances) (suc (length m.instances)) small (omega arith)) in
-                (r.0, subst (λ n. Carries whole zs n r.0) (sym (drives ∙ same)) r.1)
+                (r.0, subst (λ n. Carries whole zs n r.0) (sym (one-step done c.stable small x q j d at2 e l reached is)) r.1)
 
     carried-all : (done ks : List ℕ) → length done + length ks ≤ length m.instances → InOrder m placed done ks → Carried done → Carried (done ++ ks)
     carried-all done [] small o c = subst Carried (sym (append-nil done)) c
@@ -244,6 +257,7 @@ module _ (earlier : List Flat) (m : Module) (order : List ℕ) (can : CanFlatten
     start : Carried []
     start = record {
       stable = start-stable;
+      drives = λ x k p j h at e l is. absurd (omega (arith, h.1));
       nets = start-net;
       gates = λ k p h at n l. absurd (omega (arith, h.1));
     }
@@ -275,6 +289,25 @@ module _ (earlier : List Flat) (m : Module) (order : List ℕ) (can : CanFlatten
   net-in : (zs : List Bool) → length zs ≡ length m.inputs → (n : Net) (b : Bool) → Carries whole zs n b → NetIn whole n
   net-in zs wide (In i) b (input l e) = omega (arith, l, wide)
   net-in zs wide (Own k) b (gate g bs at all e) = slice_get_within whole.gates k g at
+
+  abbrev zeros : List Bool
+  zeros = replicate (length m.inputs) false
+
+  zeros-long : length zeros ≡ length m.inputs
+  zeros-long = length-replicate (length m.inputs) false
+
+  -- each net that is reached is driven by a net of the whole
+  pub reached-in : (x : Text) → Reaches m placed order x → NetIn (flat earlier m) (driver_within (suc (length m.instances)) m.inputs (placed_of earlier m) x)
+  reached-in x r = let h = (carried zeros zeros-long).nets x r in net-in zeros zeros-long (driver x) h.0 h.1
+
+  -- an input drives itself
+  pub input-drives : (x : Text) (i : ℕ) → position (λ y. bytes_eq x y) m.inputs ≡ Some i → driver_within (suc (length m.instances)) m.inputs (placed_of earlier m) x ≡ In i
+  input-drives x i is = ap (λ o. drive (within (length m.instances)) o (pin_of x placed)) is
+
+  -- an output of an instance is driven by its part
+  pub pin-drives : (x : Text) (k : ℕ) (p : Placed) (j : ℕ) → k < length m.instances → slice_get (placed_of earlier m) k ≡ Some p → pin_of x (placed_of earlier m) ≡ Some (p, j) → j < length p.flat.outputs → position (λ y. bytes_eq x y) m.inputs ≡ None
+      → driver_within (suc (length m.instances)) m.inputs (placed_of earlier m) x ≡ outward p (driver_within (suc (length m.instances)) m.inputs (placed_of earlier m)) (get_or p.flat.outputs j (In 0))
+  pin-drives x k p j w at e l is = (carried zeros zeros-long).drives x k p j (can.all k w) at e l is
 
   outs-in : (xs : List Text) → Each (Reaches m placed order) xs → Each (NetIn whole) (map driver xs)
   outs-in [] r = tt
