@@ -5,3 +5,7 @@ pub mod Owning
 pub mod Refusing
 pub mod Facts
 pub mod Pushing
+pub mod Driving
+pub mod Filling
+pub mod Wired
+pub mod Tabling

@@ -1,12 +1,14 @@
 -- The owners of nets are the instances that drive them.
-use Rattle.std.proofs.Common.{◌≡◌, ◌≢◌, inl, inr, ℕ, zero, suc, ◌+◌, ◌<◌, Bool, true, false, List, [], ◌∷◌, ◌++◌, map, length, get_or, slice_set, replicate, option_to_list, Contains, Option, Some, None, position, bytes_eq, refl, sym, ◌∙◌, ap, arith}
+use Rattle.std.proofs.Common.{◌≡◌, ◌≢◌, inl, inr, ℕ, zero, suc, ◌+◌, ◌<◌, Bool, true, false, List, [], ◌∷◌, ◌++◌, map, length, get_or, slice_set, replicate, option_to_list, Contains, Option, Some, None, position, bytes_eq, refl, sym, ◌∙◌, ap, subst, arith}
 use Rattle.std.proofs.lemmas.Bool.{true≢false}
 use Rattle.std.proofs.lemmas.Option.{same_Some}
 use Rattle.std.proofs.lemmas.List.{get_or-set_same, get_or-set_other, get_or-replicate, length-set, length-map, length-replicate}
 use Rattle.std.proofs.lemmas.List.Elements.{Contains-append_cases}
 use Rattle.cb_model.specs.Text.{Text}
 use Rattle.cb_model.specs.Circuits.{Instance, Module}
-use Rattle.cb_model.specs.Order.{needs_of, IsGraph}
+use Rattle.std.specs.Prelude.{◌↔◌, Result, Ok, Err, IfOk, IfSome, MatchOption}
+use Rattle.cb_model.specs.Facts as facts
+use Rattle.cb_model.specs.Order.{needs_of, IsGraph, HasCycle, IsOrder}
 use Rattle.cb_facts.specs.Reads.{AreNumbers, AreInstances, no_instances, an_instance}
 use Rattle.cb_flat.specs.Acyclic.{index_or, index_in, wants, instance_graph}
 use Rattle.cb_flat.proofs.Places.{position-cons, here_or, behind, bytes_eq-refl, bytes_eq-same}
@@ -119,7 +121,7 @@ mapped [] k h = absurd (omega (arith, h.1))
 mapped (j ∷ js) k (zero, l, e) = (j, (sym e, (0, omega arith, refl)))
 mapped (j ∷ js) k (suc n, l, e) = let r = mapped js k (n, omega (arith, l), e) in (r.0, (r.1.0, (suc r.1.1.0, (let z = r.1.1.1 in omega (arith, z)), r.1.1.2)))
 
-index-within : (x : Text) (is : List Instance) (k : ℕ) → Contains (index_in x is) k → k < length is
+pub index-within : (x : Text) (is : List Instance) (k : ℕ) → Contains (index_in x is) k → k < length is
 index-within x [] k h = absurd (omega (arith, h.1))
 index-within x (i ∷ is) k h = step (position (bytes_eq x) i.outs) (index-within x is) h
   where
@@ -155,3 +157,17 @@ owned-from-long os at (ks ∷ kss) = owned-from-long (owned os ks at) (suc at) k
 
 pub owned-all-long : (n : ℕ) (kss : List (List ℕ)) → length (owned_all n kss) ≡ n
 owned-all-long n kss = owned-from-long (replicate n None) 0 kss ∙ length-replicate n None
+
+-- ---- an order of the graph is one of the instances
+
+pub order-known : {V E : Type 0} (r : Result (Option V) E) (items : V → List ℕ) (g : List (List ℕ)) (m : Module) → g ≡ instance_graph m → facts.HasCycle m ↔ HasCycle (instance_graph m)
+    → IfOk r (λ o. MatchOption o (HasCycle g) (λ v. IsOrder g (items v))) → IfOk r (λ o. MatchOption o (facts.HasCycle m) (λ v. IsOrder (instance_graph m) (items v)))
+order-known (Ok (Some v)) items g m e c h = subst (λ (g : List (List ℕ)). IsOrder g (items v)) e h
+order-known (Ok None) items g m e c h = c.1 (subst HasCycle e h)
+order-known (Err x) items g m e c h = tt
+
+pub no-cycle-known : {V E : Type 0} (r : Result (Option V) E) (g : List (List ℕ)) (m : Module) → g ≡ instance_graph m → facts.HasCycle m ↔ HasCycle (instance_graph m)
+    → IfOk r (λ o. IfSome o (λ v. HasCycle g → ⊥)) → IfOk r (λ o. IfSome o (λ v. facts.HasCycle m → ⊥))
+no-cycle-known (Ok (Some v)) g m e c h = λ k. h (subst HasCycle (sym e) (c.0 k))
+no-cycle-known (Ok None) g m e c h = tt
+no-cycle-known (Err x) g m e c h = tt

@@ -26,7 +26,7 @@ flats-push fs (n ∷ ms) m = flats-push (fs ++ flat fs n ∷ []) ms m
 modules-push : (es : List Entry) (e : Entry) → modules_of (es ++ e ∷ []) ≡ modules_of es ++ module_view e.raw ∷ []
 modules-push es e = map-append (λ (e : Entry). module_view e.raw) es (e ∷ [])
 
-all-flats : (es : List Entry) (e : Entry) → flats [] (modules_of (es ++ e ∷ [])) ≡ flats [] (modules_of es) ++ flat (flats [] (modules_of es)) (module_view e.raw) ∷ []
+pub all-flats : (es : List Entry) (e : Entry) → flats [] (modules_of (es ++ e ∷ [])) ≡ flats [] (modules_of es) ++ flat (flats [] (modules_of es)) (module_view e.raw) ∷ []
 all-flats es e = ap (flats []) (modules-push es e) ∙ flats-push [] (modules_of es) (module_view e.raw)
 
 pub view-push : (es : List Entry) (e : Entry) (ss : List SpecEntry) → circuits_view (es ++ e ∷ []) ss ≡ with_module (circuits_view es ss) (module_view e.raw)

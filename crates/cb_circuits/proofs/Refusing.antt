@@ -23,8 +23,8 @@ use Rattle.std.specs.Borrow.{Bor}
 use Rattle.cb_facts.specs.declared.modules.RawModule.{RawModule}
 use Rattle.cb_facts.specs.Modules.{texts}
 use Rattle.cb_facts.proofs.Steps.{numbers-long}
-use Rattle.cb_circuits.specs.declared.checks.Part as circ
-use Rattle.cb_circuits.specs.declared.checks.Part.TheVariants as part
+use Rattle.cb_netlist.specs.declared.netlist.Part as circ
+use Rattle.cb_netlist.specs.declared.netlist.Part.TheVariants as part
 use Rattle.cb_circuits.specs.Parts.{IsNamed, fits_kind, kind_gates, gates_of, all_gates}
 use Rattle.cb_circuits.proofs.Names.{instance-at, no_instance}
 use Rattle.cb_circuits.proofs.Marking.{lists-long}
@@ -129,7 +129,7 @@ no-fault fs i is x a b s e f =
 
 -- ---- how many gates
 
-kind-long : (fs : List Flat) (k : Option GateKind) (x : Text) (n : ℕ) → length (part_or k fs x n).gates ≡ kind_gates fs k x
+pub kind-long : (fs : List Flat) (k : Option GateKind) (x : Text) (n : ℕ) → length (part_or k fs x n).gates ≡ kind_gates fs k x
 kind-long fs (Some kind) x n = refl
 kind-long fs None x n = refl
 

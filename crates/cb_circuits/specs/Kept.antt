@@ -1,9 +1,12 @@
 -- What is kept of modules and specifications.
-use Rattle.std.specs.Prelude.{◌≡◌, ◌<◌, ◌≤◌, ◌^◌, true, List, [], ◌∷◌, length, map}
+use Rattle.std.specs.Prelude.{◌≡◌, ◌+◌, ◌<◌, ◌≤◌, ◌^◌, true, List, [], ◌∷◌, length, map}
 use Rattle.cb_model.specs.Bits.{Each, all_of}
 use Rattle.cb_model.specs.Values.{in_scope}
 use Rattle.cb_model.specs.Text.{Text}
-use Rattle.cb_model.specs.Circuits.{Flat, flats}
+use Rattle.cb_model.specs.Circuits.{Flat, flats, pins_of}
+use Rattle.cb_model.specs.Carry.{IsCarrying}
+use Rattle.cb_netlist.specs.Wiring.{Wiring}
+use Rattle.cb_netlist.specs.Netlists.{AreNetlists}
 use Rattle.cb_circuits.specs.declared.circuits.Entry.{Entry}
 use Rattle.cb_circuits.specs.declared.circuits.SpecEntry.{SpecEntry}
 use Rattle.cb_circuits.specs.View.{IsWell, modules_of}
@@ -37,3 +40,19 @@ pub record IsKept (es : List Entry) (names : List Text) (ss : List SpecEntry) (s
   pub scopes : Each IsSpecEntry ss
   pub few : length es < 2 ^ 32
   pub few_specs : length ss < 2 ^ 32
+
+-- each gate has as many pins as its kind may have
+abbrev pub HasPins : Flat → Type 0
+HasPins f = Each (λ g. pins_of g.0 (length g.1) ≡ true) f.gates
+
+-- the netlists are those of the flattened modules, which carry bits and are small enough
+pub record AreWired (es : List Entry) (ns : List Wiring) : Type 0 where
+  pub netlists : AreNetlists (flats [] (modules_of es)) ns
+  pub carrying : Each IsCarrying (flats [] (modules_of es))
+  pub pins : Each HasPins (flats [] (modules_of es))
+  pub small : Each (λ n. n.inputs + n.gates < 2 ^ 32) ns
+
+-- what is kept of a file
+pub record AreCircuits (es : List Entry) (ns : List Wiring) (names : List Text) (ss : List SpecEntry) (spec_names : List Text) : Type 0 where
+  pub kept : IsKept es names ss spec_names
+  pub wired : AreWired es ns

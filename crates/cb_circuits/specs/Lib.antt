@@ -6,3 +6,4 @@ pub mod Parts
 pub mod Owners
 pub mod Reading
 pub mod Refused
+pub mod Driving

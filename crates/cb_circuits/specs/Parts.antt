@@ -1,12 +1,14 @@
 -- The parts of instances.
-use Rattle.std.specs.Prelude.{◌≡◌, ℕ, ◌+◌, ◌<◌, Bool, true, ◌&&◌, ◌==◌, min, List, [], ◌∷◌, length, slice_index_or, Option, Some, None}
+use Rattle.std.specs.Prelude.{◌≡◌, ◌≤◌, ℕ, ◌+◌, ◌<◌, Bool, true, ◌&&◌, ◌==◌, min, List, [], ◌∷◌, length, map, slice_index_or, Option, Some, None}
 use Rattle.cb_model.specs.Text.{Text}
 use Rattle.cb_model.specs.declared.GateKind.{GateKind}
 use Rattle.cb_model.specs.Circuits.{Flat, Module, Instance, gate_names, kind_named, pins_of, no_flat, flat_named}
 use Rattle.cb_model.specs.Facts.{FactRefusal, ModuleRefusal, is_part, instances_fault}
 use Rattle.cb_model.specs.Facts as facts
-use Rattle.cb_circuits.specs.declared.checks.Part.{Part}
-use Rattle.cb_circuits.specs.declared.checks.Part.TheVariants as part
+use Rattle.cb_flat.specs.Flatten.{placed_of}
+use Rattle.cb_netlist.specs.declared.netlist.Part.{Part}
+use Rattle.cb_netlist.specs.declared.netlist.Part.TheVariants as part
+use Rattle.cb_circuits.specs.declared.checks.Found.{Found}
 use Rattle.cb_circuits.specs.declared.checks.Fault.{Fault}
 use Rattle.cb_circuits.specs.declared.checks.Fault.TheVariants as fault
 
@@ -45,10 +47,19 @@ abbrev pub all_gates : List Flat → List Instance → ℕ
 all_gates fs [] = 0
 all_gates fs (i ∷ is) = gates_of fs i.part + all_gates fs is
 
--- the instances have no fault, and so many gates, where they don't have too many
-pub record AreParts (fs : List Flat) (m : Module) (n : ℕ) : Type 0 where
+-- the parts of instances in order
+abbrev pub AreNamed : List Flat → List Instance → List Part → Type 0
+AreNamed fs [] [] = Unit {0}
+AreNamed fs [] (p ∷ ps) = ⊥
+AreNamed fs (i ∷ is) [] = ⊥
+AreNamed fs (i ∷ is) (p ∷ ps) = IsNamed fs i.part p × AreNamed fs is ps
+
+-- the instances have no fault, these parts, and so many gates, where they don't have too many
+pub record AreParts (fs : List Flat) (m : Module) (r : Found) : Type 0 where
   pub faultless : instances_fault fs m.instances ≡ None
-  pub gates : n ≡ min (all_gates fs m.instances) 1000001
+  pub named : AreNamed fs m.instances r.parts.items
+  pub gates : r.gates ≡ min (all_gates fs m.instances) 1000001
+  pub first : r.gates ≤ 1000000 → r.firsts.items ≡ map (λ p. p.first) (placed_of fs m)
 
 -- the first fault of the instances
 abbrev pub FaultsSo : List Flat → Module → Fault → Type 0

@@ -5,13 +5,14 @@ ghost use Rattle.cb_model.specs.Circuits.{flat, flat_named};
 ghost use Rattle.cb_model.specs.Facts.{is_part, ModuleRefusal, all_driven_once};
 ghost use Rattle.cb_circuits.specs.View.{IsWell, module_view};
 ghost use Rattle.cb_circuits.specs.Parts.{IsNamed, fits_counts, fault_of, AreParts, FaultsSo, gates_of, Refuses};
+ghost use Rattle.cb_circuits.specs.Driving.{IsChecked};
 
 use crate::circuits::Circuits;
 use crate::marks::driven_once;
-use crate::owners::has_cycle;
+use crate::owners::instance_order;
 use cb_facts::RawModule;
 use cb_gates::{gate, pins};
-use cb_model::GateKind;
+use cb_netlist::{Netlist, Part};
 use std::alloc::{AllocError, Global};
 
 /// How many gates a flattened module may have.
@@ -28,11 +29,13 @@ pub(crate) enum Fault {
     Large,
 }
 
-/// The part of an instance: a gate, or a module by its number.
-#[derive(Clone, Copy)]
-pub(crate) enum Part {
-    Gate(GateKind),
-    Module(u32),
+/// The parts of a module's instances in order, the number of each one's first gate among all, and how many gates they
+/// have, or one more than a module may have where they have more.
+#[derive(Drop)]
+pub(crate) struct Found {
+    pub parts: Vec<Part>,
+    pub firsts: Vec<u32>,
+    pub gates: u32,
 }
 
 impl<'s> Circuits<'s> {
@@ -64,7 +67,7 @@ impl<'s> Circuits<'s> {
     }
 
     /// How many gates a part has.
-    fn part_gates(&self, name: &[u8], part: Part) -> u32
+    pub(crate) fn part_gates(&self, name: &[u8], part: Part) -> u32
         requires { IsNamed self.now.flats name.now part }
         ensures gates { result ≡ gates_of self.now.flats name.now }
         ensures small { result ≤ 1000000 }
@@ -75,52 +78,63 @@ impl<'s> Circuits<'s> {
         }
     }
 
-    /// The first fault of the instances in order; without one, how many gates they have, or one more than a module may
-    /// have where they have more.
-    fn instances(&self, raw: &RawModule<'_>) -> Result<u32, Fault>
+    /// The first fault of the instances in order; without one, their parts, and how many gates they have.
+    fn instances(
+        &self,
+        alloc: Global,
+        raw: &RawModule<'_>,
+    ) -> Result<Result<Found, Fault>, AllocError>
         requires { IsWell raw.now }
-        ensures { MatchResult result (λ n. AreParts self.now.flats (module_view raw.now) n) (FaultsSo self.now.flats (module_view raw.now)) }
+        ensures { IfOk result (λ r. MatchResult r (AreParts self.now.flats (module_view raw.now)) (FaultsSo self.now.flats (module_view raw.now))) }
     {
+        let mut parts = Vec::new(alloc);
+        let mut firsts = Vec::new(alloc);
         let mut gates = 0;
         for at in 0..raw.parts.len() {
             let name = raw.parts[at];
             let Some(part) = self.part(name) else {
-                return Err(Fault::Part);
+                return Ok(Err(Fault::Part));
             };
             if !self.fits(name, part, raw.ins.list(at).len(), raw.outs.list(at).len()) {
-                return Err(Fault::Pins);
+                return Ok(Err(Fault::Pins));
             }
+            parts.push(part)?;
+            firsts.push(gates)?;
             let more: u32 = gates + self.part_gates(name, part);
             gates = more.min(LIMIT + 1);
         }
-        Ok(gates)
+        Ok(Ok(Found {
+            parts,
+            firsts,
+            gates,
+        }))
     }
 
-    /// How many gates a module has whose fact is accepted, or what the fact is refused with.
+    /// The netlist of a module whose fact is accepted, or what the fact is refused with.
     pub(crate) fn check(
         &self,
         alloc: Global,
         raw: &RawModule<'_>,
-    ) -> Result<Result<u32, Fault>, AllocError>
+    ) -> Result<Result<Netlist, Fault>, AllocError>
         requires { IsWell raw.now }
-        ensures { IfOk result (λ r. MatchResult r (λ n. ModuleRefusal self.now.flats (module_view raw.now) None × (n ≡ length (flat self.now.flats (module_view raw.now)).gates) × (n ≤ 1000000)) (Refuses self.now.flats (module_view raw.now))) }
+        ensures { IfOk result (λ r. MatchResult r (IsChecked self.now.flats (module_view raw.now)) (Refuses self.now.flats (module_view raw.now))) }
     {
         if self.part(raw.name).is_some() {
             return Ok(Err(Fault::Twice));
         }
-        let gates = match self.instances(raw) {
-            Ok(gates) => gates,
+        let found = match self.instances(alloc, raw)? {
+            Ok(found) => found,
             Err(fault) => return Ok(Err(fault)),
         };
         if !driven_once(alloc, raw)? {
             return Ok(Err(Fault::Driven));
         }
-        if has_cycle(alloc, raw)? {
+        let Some(order) = instance_order(alloc, raw)? else {
             return Ok(Err(Fault::Cycle));
-        }
-        if gates > LIMIT {
+        };
+        if found.gates > LIMIT {
             return Ok(Err(Fault::Large));
         }
-        Ok(Ok(gates))
+        Ok(Ok(self.netlist(alloc, raw, &found, order.as_slice())?))
     }
 }

@@ -10,6 +10,7 @@ ghost use Rattle.cb_circuits.specs.At.{module_at, flat_at, spec_at};
 use cb_facts::{RawModule, RawSpec};
 use cb_model::Expr;
 use cb_names::Names;
+use cb_netlist::Netlist;
 use std::alloc::Global;
 use std::marker::Model;
 
@@ -33,6 +34,7 @@ pub(crate) struct SpecEntry<'s> {
 #[derive(Drop)]
 pub struct Circuits<'s> {
     pub(crate) modules: Vec<Entry<'s>>,
+    pub(crate) netlists: Vec<Netlist>,
     pub(crate) names: Names<'s>,
     pub(crate) specs: Vec<SpecEntry<'s>>,
     pub(crate) spec_names: Names<'s>,
@@ -41,7 +43,7 @@ pub struct Circuits<'s> {
 impl<'s> Model for Circuits<'s> {
     ghost use Rattle.cb_model.specs.Facts as facts;
     ghost use Rattle.cb_circuits.specs.View.{circuits_view};
-    ghost use Rattle.cb_circuits.specs.Kept.{IsKept};
+    ghost use Rattle.cb_circuits.specs.Kept.{AreCircuits};
     ghost use Rattle.std.specs.Coded.{codes};
     ghost use Rattle.cb_model.specs.contracts.Expr as expr;
 
@@ -51,7 +53,7 @@ impl<'s> Model for Circuits<'s> {
 
     ghost view = { λ c. circuits_view c.modules.items c.specs.items };
 
-    ghost invariant = { λ c. IsKept c.modules.items c.names c.specs.items c.spec_names };
+    ghost invariant = { λ c. AreCircuits c.modules.items c.netlists.items c.names c.specs.items c.spec_names };
 }
 
 impl<'s> Circuits<'s> {
@@ -61,6 +63,7 @@ impl<'s> Circuits<'s> {
     {
         Circuits {
             modules: Vec::new(alloc),
+            netlists: Vec::new(alloc),
             names: Names::new(alloc),
             specs: Vec::new(alloc),
             spec_names: Names::new(alloc),

@@ -3,7 +3,9 @@
 
 mod checks;
 mod circuits;
+mod drivers;
 mod marks;
+mod netlists;
 mod owners;
 mod reading;
 

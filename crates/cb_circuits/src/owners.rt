@@ -1,7 +1,8 @@
-//! Which instances drive which nets, and whether they drive one another in a round.
+//! Which instances drive which nets, and their order by that.
 
-ghost use Rattle.std.specs.Prelude.{◌≡◌, ◌<◌, ◌≤◌, ◌^◌, ℕ, true, length, take, [], ◌∷◌, ◌++◌, IfOk, OnOk, MatchBool, option_to_list};
+ghost use Rattle.std.specs.Prelude.{◌≡◌, ◌<◌, ◌≤◌, ◌^◌, ℕ, true, length, take, [], ◌∷◌, ◌++◌, IfOk, IfSome, OnOk, MatchOption, option_to_list};
 ghost use Rattle.cb_model.specs.Facts.{all_driven_once, HasCycle};
+ghost use Rattle.cb_model.specs.Order.{IsOrder};
 ghost use Rattle.cb_flat.specs.Acyclic.{instance_graph};
 ghost use Rattle.cb_circuits.specs.View.{IsWell, module_view};
 ghost use Rattle.cb_circuits.specs.Marks.{AreWithin};
@@ -92,20 +93,22 @@ fn graph(alloc: Global, raw: &RawModule<'_>) -> Result<Lists, AllocError>
     Ok(graph)
 }
 
-/// Whether some instances each take an output of the one before, round to the first. A fact with more instances than a
-/// `u32` counts is refused as want of memory.
-pub(crate) fn has_cycle(alloc: Global, raw: &RawModule<'_>) -> Result<bool, AllocError>
+/// The instances in an order in which each comes behind those whose outputs it takes; `None` exactly where some of them
+/// each take an output of the one before, round to the first. A fact with more instances than a `u32` counts is refused
+/// as want of memory.
+pub(crate) fn instance_order(
+    alloc: Global,
+    raw: &RawModule<'_>,
+) -> Result<Option<Vec<u32>>, AllocError>
     requires well { IsWell raw.now }
     requires once { all_driven_once (module_view raw.now) ≡ true }
-    ensures { IfOk result (λ b. MatchBool b (HasCycle (module_view raw.now)) (HasCycle (module_view raw.now) → ⊥)) }
+    ensures order { IfOk result (λ o. MatchOption o (HasCycle (module_view raw.now)) (λ v. IsOrder (instance_graph (module_view raw.now)) v.items)) }
+    ensures none { IfOk result (λ o. IfSome o (λ v. HasCycle (module_view raw.now) → ⊥)) }
 {
     flat_has_one();
     if raw.outs.len() > u32::MAX as usize {
         return Err(AllocError);
     }
     let graph = graph(alloc, raw)?;
-    match order(alloc, &graph)? {
-        Some(_) => Ok(false),
-        None => Ok(true),
-    }
+    order(alloc, &graph)
 }

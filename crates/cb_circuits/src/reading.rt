@@ -1,16 +1,16 @@
 //! The facts of a file, one after another.
 
-ghost use Rattle.std.specs.Prelude.{◌≡◌, ◌≤◌, ◌||◌, true, false, map, length, None, OnOk, IfOk, IfErr, MatchOption};
+ghost use Rattle.std.specs.Prelude.{◌≡◌, ◌++◌, ◌∷◌, [], ◌||◌, true, false, map, None, OnOk, OnErr, IfOk, IfErr, MatchOption};
 ghost use Rattle.std.specs.List.{list_all};
 ghost use Rattle.cb_model.specs.Forms.{form_of, clause_form};
 ghost use Rattle.cb_model.specs.Written.{is_written, clause_written, AreClauses};
 ghost use Rattle.cb_model.specs.Directives.{same_sign};
-ghost use Rattle.cb_model.specs.Loading.{sign_is, module_sign, spec_sign};
-ghost use Rattle.cb_model.specs.Circuits.{flat};
-ghost use Rattle.cb_model.specs.Facts.{ModuleRefusal, FactsRead, no_circuits, with_module, with_spec};
+ghost use Rattle.cb_model.specs.Loading.{sign_is, module_sign, spec_sign, add_name};
+ghost use Rattle.cb_model.specs.Facts.{FactsRead, no_circuits, with_module, with_spec};
 ghost use Rattle.cb_facts.specs.Ports.{spec_view};
 ghost use Rattle.cb_circuits.specs.View.{IsWell, module_view};
 ghost use Rattle.cb_circuits.specs.Parts.{fault_of};
+ghost use Rattle.cb_circuits.specs.Driving.{IsChecked};
 ghost use Rattle.cb_circuits.specs.Reading.{error_at, Reads, IsRefused, ClauseReads, ClauseRefused, FactsRefused, IsScoped, is_spec_name};
 ghost use Rattle.cb_circuits.specs.Refused.{RefusesFacts};
 
@@ -20,6 +20,8 @@ use cb_directives::named;
 use cb_facts::{RawModule, RawSpec, read_module, read_spec};
 use cb_known::is_fact;
 use cb_model::{RawClause, RawTerm};
+use cb_names::Names;
+use cb_netlist::Netlist;
 use std::alloc::{AllocError, Global};
 use thiserror::Error;
 
@@ -63,14 +65,34 @@ fn refusal(line: u32, fault: Fault) -> CircError
     }
 }
 
+/// Puts a module and its name behind the others.
+fn push_entry<'s>(
+    modules: &mut Vec<Entry<'s>>,
+    names: &mut Names<'s>,
+    entry: Entry<'s>,
+) -> Result<(), AllocError>
+    ensures added { OnOk result (modules.new.items ≡ modules.old.items ++ entry.entry ∷ []) }
+    ensures named { OnOk result (names.new ≡ add_name names.old entry.entry.raw.name.now) }
+    ensures refused { OnErr result (modules.new.items ≡ modules.old.items) }
+    ensures unnamed { OnErr result (names.new ≡ names.old) }
+{
+    let name = entry.raw.name;
+    modules.push(entry)?;
+    match names.add(name) {
+        Ok(()) => Ok(()),
+        Err(error) => {
+            modules.pop();
+            Err(error)
+        }
+    }
+}
+
 impl<'s> Circuits<'s> {
     /// Puts an accepted module behind the others. More modules or outputs than a `u32` counts are refused as want of
     /// memory.
-    fn push_module(&mut self, raw: RawModule<'s>, gates: u32) -> Result<(), AllocError>
+    fn push_module(&mut self, raw: RawModule<'s>, netlist: Netlist) -> Result<(), AllocError>
         requires well { IsWell raw }
-        requires accepted { ModuleRefusal self.old.flats (module_view raw) None }
-        requires gates { gates ≡ length (flat self.old.flats (module_view raw)).gates }
-        requires small { gates ≤ 1000000 }
+        requires checked { IsChecked self.old.flats (module_view raw) netlist }
         ensures { OnOk result (self.new ≡ with_module self.old (module_view raw.entry)) }
     {
         let (Ok(outputs), Ok(_)) = (
@@ -79,16 +101,16 @@ impl<'s> Circuits<'s> {
         ) else {
             return Err(AllocError);
         };
-        let name = raw.name;
-        self.modules.push(Entry {
+        let entry = Entry {
             raw,
             outputs,
-            gates,
-        })?;
-        match self.names.add(name) {
+            gates: netlist.gates(),
+        };
+        self.netlists.push(netlist)?;
+        match push_entry(&mut self.modules, &mut self.names, entry) {
             Ok(()) => Ok(()),
             Err(error) => {
-                self.modules.pop();
+                self.netlists.pop();
                 Err(error)
             }
         }
@@ -139,8 +161,8 @@ impl<'s> Circuits<'s> {
             return Ok(Some(Fault::Pins));
         };
         match self.check(alloc, &raw)? {
-            Ok(gates) => {
-                self.push_module(raw, gates)?;
+            Ok(netlist) => {
+                self.push_module(raw, netlist)?;
                 Ok(None)
             }
             Err(fault) => Ok(Some(fault)),

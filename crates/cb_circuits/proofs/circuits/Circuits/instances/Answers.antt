@@ -1,8 +1,11 @@
-use Rattle.std.proofs.Common.{◌+◌, ◌<◌, min, length, drop, get_or, [], refl, ap, sym, ◌∙◌, arith}
-use Rattle.std.proofs.lemmas.List.{length-map}
+use Rattle.std.proofs.Common.{◌+◌, ◌<◌, ◌++◌, min, length, take, drop, get_or, [], refl, ap, sym, subst, ◌∙◌, arith, append-nil}
+use Rattle.std.proofs.lemmas.List.{length-map, take_all}
+use Rattle.cb_model.specs.Circuits.{placed_from, part_of}
+use Rattle.cb_flat.specs.Flatten.{placed_of}
 use Rattle.cb_model.specs.Facts.{instances_fault}
 use Rattle.cb_circuits.specs.View.{module_view}
-use Rattle.cb_circuits.specs.Parts.{all_gates}
+use Rattle.cb_circuits.specs.Parts.{AreNamed, gates_of, all_gates}
+use Rattle.cb_circuits.proofs.Filling.{named-on, firsts-on, firsts_of}
 use Rattle.cb_circuits.proofs.Names.{no_instance}
 use Rattle.cb_circuits.proofs.Loops.{next, past}
 use Rattle.cb_circuits.proofs.Marking.{lists-long}
@@ -62,6 +65,8 @@ loop-at-preserved c =
       gates = gates-on fs i rest c.index-name.result.now.now (length c.list.result.now) (length c.list-in-loop-at.result.now) c.loop-at.gates c.part_gates.result c.min-gates.result (all_gates fs (module_view r).instances) s c.part_gates.ensures.gates c.min-gates.ensures
           (sym (ap (λ is. min (c.loop-at.gates + all_gates fs is) 1000001) d) ∙ c.loop-at.invariant.gates);
       small = omega (arith, c.min-gates.ensures);
+      named = named-on fs (module_view r).instances at c.loop-at.parts.items c.push.new.self.items c.in-Some.part c.index-name.result.now.now (omega (arith, l, long.0, t)) s.named c.in-Some.ensures c.in_ok-push.ensures.items c.loop-at.invariant.named;
+      first = firsts-on fs i (drop at (module_view r).instances) rest c.loop-at.firsts.items c.push-in-loop-at.new.self.items (firsts_of (placed_of fs (module_view r))) c.loop-at.gates c.min-gates.result c.part_gates.result d (ap (gates_of fs) s.named ∙ sym c.part_gates.ensures.gates) c.min-gates.ensures c.in_ok-push-2.ensures.items c.loop-at.invariant.first;
     }
 
 pub returns : goal.returns
@@ -74,5 +79,7 @@ returns c =
     let d = past (module_view r).instances at (omega (arith, c.loop-at-test.false, c.len-at-end.ensures, r.parts.ok, long.0, t)) in
     record {
       faultless = c.loop-at.invariant.faults ∙ ap (instances_fault fs) d;
+      named = subst (λ is. AreNamed fs is c.loop-at.parts.items) (take_all at (module_view r).instances (omega (arith, c.loop-at-test.false, c.len-at-end.ensures, r.parts.ok, long.0, t))) c.loop-at.invariant.named;
       gates = let g = sym (ap (λ is. min (c.loop-at.gates + all_gates fs is) 1000001) d) ∙ c.loop-at.invariant.gates in omega (arith, g, c.loop-at.invariant.small);
+      first = λ few. sym (ap (λ is. c.loop-at.firsts.items ++ firsts_of (placed_from (part_of fs) c.loop-at.gates is)) d ∙ append-nil c.loop-at.firsts.items) ∙ c.loop-at.invariant.first few;
     }

@@ -16,10 +16,13 @@ push_module-requires-clause-well c = let r = rw c.in-Some.is at c.in_ok-raw.ensu
 pub returns-in_ok-push_module-in-Ok : goal.returns-in_ok-push_module-in-Ok
 returns-in_ok-push_module-in-Ok c =
     let r = rw c.in-Some.is at c.in_ok-raw.ensures in
-    let g = rw c.in-Ok.is at c.in_ok-gates.ensures in
-    λ n gs. a_module (module_view c.in-Some.raw) refl (r.is ∙ ap Some (sym (view-is c.in-Some.raw r.m r.by_number))) g.0 c.in_ok-push_module-in-Ok.ensures
+    let g = rw c.in-Ok.is at c.in_ok-netlist.ensures in
+    λ n gs. a_module (module_view c.in-Some.raw) refl (r.is ∙ ap Some (sym (view-is c.in-Some.raw r.m r.by_number))) g.accepted c.in_ok-push_module-in-Ok.ensures
 
 pub returns-in-Err : goal.returns-in-Err
 returns-in-Err c =
     let r = rw c.in-Some.is at c.in_ok-raw.ensures in
-    λ n gs. refused_module (module_view c.in-Some.raw) refl (r.is ∙ ap Some (sym (view-is c.in-Some.raw r.m r.by_number))) (rw c.in-Err.is at c.in_ok-gates.ensures)
+    λ n gs. refused_module (module_view c.in-Some.raw) refl (r.is ∙ ap Some (sym (view-is c.in-Some.raw r.m r.by_number))) (rw c.in-Err.is at c.in_ok-netlist.ensures)
+
+pub push_module-requires-clause-checked : goal.push_module-requires-clause-checked
+push_module-requires-clause-checked c = rw c.in-Ok.is at c.in_ok-netlist.ensures

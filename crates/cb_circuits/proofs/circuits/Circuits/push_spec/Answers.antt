@@ -10,9 +10,12 @@ use Rattle.cb_circuits.proofs.circuits.Circuits.push_spec.Goals as goal
 pub invariant_of-self-in-Ok : goal.invariant_of-self-in-Ok
 invariant_of-self-in-Ok c =
     let s : SpecEntry = record { raw = c.args.raw; inputs = c.in-Ok-Ok.inputs } in
-    subst (λ ss. IsKept c.self.inside.modules.items c.self.inside.names ss c.add.new.self) (sym c.in_ok-push.ensures.items)
-    (kept-spec c.self.inside.modules.items c.self.inside.names c.self.inside.specs.items c.self.inside.spec_names c.args.self.now c.self.view_is c.self.invariant s c.requires.new c.add.new.self c.in-Ok.ensures.added (record { inputs = omega (arith, c.in-Ok-Ok.ensures, c.len.ensures); scope = c.requires.scope })
-    (omega (arith, c.in-Ok-Ok.ensures', c.len-2.ensures, c.self.inside.specs.ok)))
+    record {
+      kept = subst (λ ss. IsKept c.self.inside.modules.items c.self.inside.names ss c.add.new.self) (sym c.in_ok-push.ensures.items)
+          (kept-spec c.self.inside.modules.items c.self.inside.names c.self.inside.specs.items c.self.inside.spec_names c.args.self.now c.self.view_is c.self.invariant.kept s c.requires.new c.add.new.self c.in-Ok.ensures.added (record { inputs = omega (arith, c.in-Ok-Ok.ensures, c.len.ensures); scope = c.requires.scope })
+          (omega (arith, c.in-Ok-Ok.ensures', c.len-2.ensures, c.self.inside.specs.ok)));
+      wired = c.self.invariant.wired;
+    }
 
 pub returns-in-Ok : goal.returns-in-Ok
 returns-in-Ok c =
