@@ -124,6 +124,25 @@ placed-within part d at (i ∷ is) k p e = step k (λ j. placed-within part d (a
     step zero f e = let q = ap (λ (z : Placed). z.first) (same_Some o p e) in let g = ap (λ (z : Placed). length z.flat.gates) (same_Some o p e) in omega (arith, long, q, g)
     step (suc k) f e = let r = f k e in omega (arith, long, r)
 
+-- the pins of a flattened module's gates are nets of its own
+pub carried-nets : (f : Flat) → IsCarrying f → (i : ℕ) (g : GateKind × List Net) → slice_get f.gates i ≡ Some g → Each (NetIn f) g.1
+carried-nets f c i g e =
+    let zs : List Bool = replicate f.inputs false in
+    let t = c.total zs (length-replicate f.inputs false) i (slice_get_within f.gates i g e) in
+    from zs (length-replicate f.inputs false) t.0 t.1
+  where
+    net : (zs : List Bool) → length zs ≡ f.inputs → (n : Net) (b : Bool) → Carries f zs n b → NetIn f n
+    net zs w (In j) b (input l e) = omega (arith, l, w)
+    net zs w (Own j) b (gate g bs at all e) = slice_get_within f.gates j g at
+
+    all-nets : (zs : List Bool) → length zs ≡ f.inputs → (ns : List Net) (bs : List Bool) → AllCarry f zs ns bs → Each (NetIn f) ns
+    all-nets zs w [] bs c = tt
+    all-nets zs w (n ∷ ns) [] c = elim c [ ]
+    all-nets zs w (n ∷ ns) (b ∷ bs) (more c cs) = (net zs w n b c, all-nets zs w ns bs cs)
+
+    from : (zs : List Bool) → length zs ≡ f.inputs → (b : Bool) → Carries f zs (Own i) b → Each (NetIn f) g.1
+    from zs w b (gate g2 bs at all eq) = subst (λ (z : GateKind × List Net). Each (NetIn f) z.1) (same_Some g2 g (sym at ∙ e)) (all-nets zs w g2.1 bs all)
+
 module _ (fs : List Flat) (m : Module) (a : IsAccepted fs m) (ns : List Text) (k : ℕ) (pt : circ.Part) (first : ℕ) (ins outs : List ℕ) (h : Here fs m ns k pt first ins outs) where
   abbrev number : Text → ℕ
   number x = net_number (length m.inputs) (driver_of fs m x)
@@ -180,25 +199,6 @@ module _ (fs : List Flat) (m : Module) (a : IsAccepted fs m) (ns : List Text) (k
     nets = subst (Each (λ x. x < length m.inputs + length (flat fs m).gates)) (sym (e ∙ pins-are ds t)) (below-all h.p.instance.ins (pin-is-net fs m a.fit a.driven a.acyclic k h.p.instance (placed-instance (part_of fs) 0 m.instances k h.p h.at).0));
     within = gates-within;
   }
-
-  -- the pins of a flattened module's gates are nets of its own
-  carried-nets : (f : Flat) → IsCarrying f → (i : ℕ) (g : GateKind × List Net) → slice_get f.gates i ≡ Some g → Each (NetIn f) g.1
-  carried-nets f c i g e =
-      let zs : List Bool = replicate f.inputs false in
-      let t = c.total zs (length-replicate f.inputs false) i (slice_get_within f.gates i g e) in
-      from zs (length-replicate f.inputs false) t.0 t.1
-    where
-      net : (zs : List Bool) → length zs ≡ f.inputs → (n : Net) (b : Bool) → Carries f zs n b → NetIn f n
-      net zs w (In j) b (input l e) = omega (arith, l, w)
-      net zs w (Own j) b (gate g bs at all e) = slice_get_within f.gates j g at
-
-      all-nets : (zs : List Bool) → length zs ≡ f.inputs → (ns : List Net) (bs : List Bool) → AllCarry f zs ns bs → Each (NetIn f) ns
-      all-nets zs w [] bs c = tt
-      all-nets zs w (n ∷ ns) [] c = elim c [ ]
-      all-nets zs w (n ∷ ns) (b ∷ bs) (more c cs) = (net zs w n b c, all-nets zs w ns bs cs)
-
-      from : (zs : List Bool) → length zs ≡ f.inputs → (b : Bool) → Carries f zs (Own i) b → Each (NetIn f) g.1
-      from zs w b (gate g2 bs at all eq) = subst (λ (z : GateKind × List Net). Each (NetIn f) z.1) (same_Some g2 g (sym at ∙ e)) (all-nets zs w g2.1 bs all)
 
   pub gates-are : (ds pins : List ℕ) → IsTable fs m ns ds → pins ≡ values_at ds ins
       → map (λ g. (g.0, map (net_number (length m.inputs)) g.1)) (own_gates (driver_of fs m) h.p) ≡ part_gates (λ q. numbered_gates (flat_at fs q)) (λ q. (flat_at fs q).inputs) (length m.inputs) (filled_is pt first pins)

@@ -9,3 +9,4 @@ pub mod Driving
 pub mod Filling
 pub mod Wired
 pub mod Tabling
+pub mod Flattening

@@ -7,3 +7,4 @@ pub mod Owners
 pub mod Reading
 pub mod Refused
 pub mod Driving
+pub mod Nets

@@ -1,17 +1,21 @@
 //! Modules and specifications by number.
 
-ghost use Rattle.std.specs.Prelude.{◌≡◌, ◌<◌, ◌≤◌, true, length, map, [], position, bytes_eq, slice_index_or};
-ghost use Rattle.cb_model.specs.Bits.{all_of};
+ghost use Rattle.std.specs.Prelude.{◌≡◌, ◌<◌, ◌≤◌, ◌^◌, Bool, true, List, length, map, [], position, bytes_eq, slice_index_or, IfOk};
+ghost use Rattle.cb_model.specs.Bits.{all_of, Each};
+ghost use Rattle.cb_model.specs.Circuits.{flats, circuit_of, pins_of};
+ghost use Rattle.cb_model.specs.Carry.{IsCarrying};
+ghost use Rattle.cb_model.specs.Sound.{HasOneValuation};
 ghost use Rattle.cb_model.specs.Values.{in_scope};
 ghost use Rattle.cb_model.specs.Text.{shown_name};
 ghost use Rattle.cb_model.specs.Facts.{no_circuits};
 ghost use Rattle.cb_circuits.specs.At.{module_at, flat_at, spec_at};
+ghost use Rattle.cb_circuits.specs.Nets.{HasNets};
 
 use cb_facts::{RawModule, RawSpec};
-use cb_model::Expr;
+use cb_model::{Circuit, Expr};
 use cb_names::Names;
-use cb_netlist::Netlist;
-use std::alloc::Global;
+use cb_netlist::{Netlist, flatten};
+use std::alloc::{AllocError, Global};
 use std::marker::Model;
 
 /// An accepted module, with its numbers of outputs and of flattened gates.
@@ -79,7 +83,8 @@ impl<'s> Circuits<'s> {
 
     /// The number of the module with this name; `None` where there is none.
     pub fn find(&self, name: &[u8]) -> Option<u32>
-        ensures { result ≡ position (λ m. bytes_eq m.name name.now) self.now.modules }
+        ensures number { result ≡ position (λ m. bytes_eq m.name name.now) self.now.modules }
+        ensures flats { self.now.flats ≡ flats [] self.now.modules }
     {
         match self.names.number(name) {
             Some(number) => Some(number as u32),
@@ -119,6 +124,20 @@ impl<'s> Circuits<'s> {
         ensures small { result ≤ 1000000 }
     {
         self.modules[m as usize].gates
+    }
+
+    /// The circuit of a module when it is flattened: its gates in the order of its instances, each instance of a module
+    /// replaced by that module's gates. Its nets are first the inputs, then the output of each gate.
+    pub fn flat(&self, alloc: Global, m: u32) -> Result<Circuit, AllocError>
+        requires { m < length self.now.modules }
+        ensures is { IfOk result (λ c. c ≡ circuit_of (flat_at self.now m)) }
+        ensures carries { IsCarrying (flat_at self.now m) }
+        ensures one { IfOk result (λ c. (input : List Bool) → length input ≡ c.inputs → HasOneValuation c input) }
+        ensures pins { IfOk result (λ c. Each (λ g. pins_of g.kind (length g.ins) ≡ true) c.gates) }
+        ensures nets { IfOk result HasNets }
+        ensures small { IfOk result (λ c. c.nets < 2 ^ 32) }
+    {
+        flatten(alloc, self.netlists.as_slice(), m)
     }
 
     /// The number of the specification with this name; `None` where there is none.
