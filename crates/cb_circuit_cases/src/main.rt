@@ -30,6 +30,10 @@ fn tell(alloc: Global, line: &str, out: &mut Vec<u8>) -> Result<(), Fail> {
         let source = escaped::plain(alloc, rest)?;
         return told::tell_facts(alloc, source.as_slice(), out);
     }
+    if word == "flat" {
+        let source = escaped::plain(alloc, rest)?;
+        return told::tell_flat(alloc, source.as_slice(), out);
+    }
     let Ok(number) = rest.parse::<u32>() else {
         return Ok(());
     };

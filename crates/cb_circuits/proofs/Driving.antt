@@ -1,26 +1,25 @@
 -- What drives nets, by numbers.
-use Rattle.std.proofs.Common.{◌≡◌, ◌≢◌, inl, inr, ℕ, zero, suc, ◌+◌, ◌<◌, ◌≤◌, Bool, true, false, List, [], ◌∷◌, ◌++◌, map, take, drop, length, get_or, slice_get, slice_set, Option, Some, None, position, bytes_eq, flat_map, Contains, refl, sym, ◌∙◌, ap, subst, arith, append-nil, append_assoc, length-append}
+use Rattle.std.proofs.Common.{◌≡◌, ◌≢◌, inl, inr, ℕ, zero, suc, ◌+◌, ◌<◌, ◌≤◌, Bool, true, false, List, [], ◌∷◌, ◌++◌, map, take, drop, length, get_or, slice_get, slice_set, Option, Some, None, position, bytes_eq, flat_map, Contains, refl, sym, ◌∙◌, ap, subst, arith, append-nil, append_assoc}
 use Rattle.std.proofs.lemmas.Bool.{cases_eq, true≢false}
 use Rattle.std.proofs.lemmas.Option.{same_Some, slice_get_within}
 use Rattle.std.proofs.lemmas.List.{get_or-set_same, get_or-set_other, get_or-map, length-set, length-map}
 use Rattle.std.proofs.lemmas.List.Concat.{flat_map-cons}
 use Rattle.std.proofs.lemmas.List.Elements.{Contains-append_left, Contains-append_right, Contains-push_cases}
-use Rattle.cb_model.specs.declared.GateKind.{GateKind}
 use Rattle.cb_model.specs.Bits.{Each}
 use Rattle.cb_model.specs.Text.{Text}
-use Rattle.cb_model.specs.Circuits.{Net, In, Own, Flat, Instance, Module, Placed, placed_from, part_of, pin_of, outward, net_number, flat}
+use Rattle.cb_model.specs.Circuits.{Net, In, Own, Flat, Instance, Module, Placed, part_of, pin_of, outward, net_number, flat}
 use Rattle.cb_model.specs.Facts.{drivers, nets}
-use Rattle.cb_model.specs.Order.{needs_of, CanCome, Follows, IsOrder}
-use Rattle.cb_model.specs.Carry.{IsCarrying, NetIn}
+use Rattle.cb_model.specs.Order.{CanCome, Follows, IsOrder}
+use Rattle.cb_model.specs.Carry.{NetIn}
 use Rattle.cb_facts.specs.Reads.{AreNumbers}
 use Rattle.cb_order.proofs.Orders.{cons-here, cons-later}
-use Rattle.cb_flat.specs.Walk.{Filled, AModule, placed_net}
-use Rattle.cb_flat.specs.Flatten.{placed_of, Reaches}
+use Rattle.cb_flat.specs.Walk.{AModule, placed_net}
+use Rattle.cb_flat.specs.Flatten.{placed_of}
 use Rattle.cb_flat.specs.Acyclic.{index_in, wants, instance_graph}
 use Rattle.cb_flat.proofs.Places.{position-cons, here_or, bytes_eq-refl, bytes_eq-same, position-Some, position-Contains, position-append-found}
 use Rattle.cb_flat.proofs.Drivers.{net-outward}
 use Rattle.cb_flat.proofs.Flatten.{reached-in, input-drives, pin-drives}
-use Rattle.cb_flat.proofs.Accepted.{IsAccepted, AtPin, at-pin, placed-instance, placed-are, placed-fits, net-driven, net-reached, pin-is-net, wants-has, graph-at, graph-long, counted, counted-here, counted-there, counted-lost, counted-some, outs_in, outs-cons, outs-one, outs-two, drivers-once, given-once}
+use Rattle.cb_flat.proofs.Accepted.{IsAccepted, AtPin, at-pin, placed-instance, placed-are, placed-fits, net-driven, net-reached, pin-is-net, graph-at, graph-long, counted, counted-here, counted-there, counted-lost, counted-some, outs_in, outs-cons, outs-one, outs-two, drivers-once, given-once}
 use Rattle.cb_circuits.specs.Driving.{driver_of, IsDriven, by_input, by_pin, AreDrivers, values_at, set_all, placed_outs}
 use Rattle.cb_circuits.proofs.Names.{name-at, one-name}
 use Rattle.cb_circuits.proofs.Owning.{index-within}

@@ -1,5 +1,5 @@
 -- The netlist of an accepted module.
-use Rattle.std.proofs.Common.{◌≡◌, inl, inr, ℕ, zero, suc, ◌+◌, ◌<◌, ◌≤◌, ◌^◌, Bool, true, false, not, ◌&&◌, ◌==◌, if◌then◌else◌, min, List, [], ◌∷◌, ◌++◌, map, take, drop, length, get_or, slice_get, Option, Some, None, position, bytes_eq, flat_map, replicate, Contains, refl, sym, ◌∙◌, ap, subst, arith, append-nil, append_assoc, length-append, add-one, drop-cons}
+use Rattle.std.proofs.Common.{◌≡◌, ℕ, zero, suc, ◌+◌, ◌<◌, ◌≤◌, ◌^◌, Bool, true, false, not, ◌==◌, if◌then◌else◌, min, List, [], ◌∷◌, ◌++◌, map, take, drop, length, get_or, slice_get, Option, Some, None, bytes_eq, flat_map, replicate, Contains, refl, sym, ◌∙◌, ap, subst, arith, append-nil, append_assoc, length-append, add-one, drop-cons}
 use Rattle.std.proofs.lemmas.Bool.{and_parts}
 use Rattle.std.proofs.lemmas.Option.{same_Some, slice_get_within, slice_get-get_or}
 use Rattle.std.proofs.lemmas.List.{length-map, map-append, length-replicate, drop_all}
@@ -8,17 +8,16 @@ use Rattle.std.proofs.lemmas.Grind.{flat_map-append}
 use Rattle.cb_model.specs.declared.GateKind.{GateKind}
 use Rattle.cb_model.specs.Bits.{Each, numbers, numbers_from}
 use Rattle.cb_model.specs.Text.{Text}
-use Rattle.cb_model.specs.Circuits.{Net, In, Own, Flat, Instance, Module, Placed, gate_flat, gate_names, kind_named, pins_of, no_flat, flat_named, part_or, part_of, placed_from, own_gates, outward, net_number, flat, flats}
-use Rattle.cb_model.specs.Facts.{FactRefusal, Part, Pins, nets, is_part, pins_fit, instances_fault, ModuleRefusal}
+use Rattle.cb_model.specs.Circuits.{Net, In, Own, Flat, Instance, Module, Placed, gate_flat, gate_names, kind_named, pins_of, flat_named, part_or, part_of, placed_from, own_gates, outward, net_number, flat}
+use Rattle.cb_model.specs.Facts.{Part, Pins, nets, is_part, pins_fit, instances_fault, ModuleRefusal}
 use Rattle.cb_model.specs.Order.{IsOrder}
 use Rattle.cb_model.specs.Carry.{Carries, input, gate, AllCarry, more, IsCarrying, NetIn}
 use Rattle.cb_facts.specs.Reads.{AreNumbers}
 use Rattle.cb_facts.proofs.Steps.{numbers-long}
 use Rattle.cb_facts.specs.declared.modules.RawModule.{RawModule}
 use Rattle.cb_order.proofs.Orders.{cons-here, cons-later}
-use Rattle.cb_flat.specs.Walk as walk
 use Rattle.cb_flat.specs.Walk.{Filled, Numbered, part_gates}
-use Rattle.cb_flat.specs.Drivers.{numbered_gates, IsPart, a_gate, a_module, IsFilled}
+use Rattle.cb_flat.specs.Drivers.{numbered_gates, IsPart, a_gate, a_module}
 use Rattle.cb_flat.specs.Flatten.{placed_of}
 use Rattle.cb_flat.specs.Acyclic.{instance_graph}
 use Rattle.cb_flat.proofs.Drivers.{instance-right}
@@ -27,14 +26,13 @@ use Rattle.cb_netlist.specs.declared.netlist.Part as circ
 use Rattle.cb_netlist.specs.declared.netlist.Part.TheVariants as part
 use Rattle.cb_netlist.specs.Wiring.{Wiring, bare_wiring, with_instance}
 use Rattle.cb_netlist.specs.Parts.{part_is, filled_is}
-use Rattle.cb_netlist.specs.Netlists.{flat_at, gates_in, TakesPins, IsPlaced, IsNetlist}
+use Rattle.cb_netlist.specs.Netlists.{flat_at, gates_in, TakesPins, IsPlaced}
 use Rattle.cb_circuits.specs.declared.checks.Found.{Found}
 use Rattle.cb_circuits.specs.View.{module_view, IsWell}
 use Rattle.cb_circuits.specs.Kept.{HasPins}
-use Rattle.cb_circuits.specs.Marks.{AreWithin}
 use Rattle.cb_circuits.specs.Parts.{IsNamed, AreNamed, gates_of, kind_gates}
 use Rattle.cb_circuits.specs.Driving.{driver_of, AreDrivers, IsTable, ArePlaced, AreFilled, IsChecked, values_at, part_flat, placed_outs, with_outputs}
-use Rattle.cb_circuits.proofs.Names.{no_instance, instance-at, numbers-within}
+use Rattle.cb_circuits.proofs.Names.{no_instance, instance-at}
 use Rattle.cb_circuits.proofs.Driving.{driven-all, number-in, output-is-net}
 use Rattle.cb_circuits.proofs.Refusing.{kind-long}
 

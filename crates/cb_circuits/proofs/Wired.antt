@@ -1,5 +1,5 @@
 -- The netlists of a file's modules.
-use Rattle.std.proofs.Common.{◌≡◌, ℕ, zero, suc, ◌+◌, ◌-◌, ◌<◌, ◌≤◌, ◌^◌, Bool, true, false, nat_lt, List, [], ◌∷◌, ◌++◌, map, take, length, get_or, None, refl, sym, ◌∙◌, ap, subst, arith}
+use Rattle.std.proofs.Common.{◌≡◌, ℕ, ◌+◌, ◌<◌, ◌≤◌, ◌^◌, false, nat_lt, List, [], ◌∷◌, ◌++◌, map, take, length, get_or, None, refl, sym, ◌∙◌, ap, subst, arith}
 use Rattle.std.proofs.lemmas.Bool.Decides.{nat_tests}
 use Rattle.std.proofs.lemmas.List.{get_or_default}
 use Rattle.cb_model.specs.declared.GateKind.{GateKind}
@@ -9,7 +9,6 @@ use Rattle.cb_model.specs.Facts.{Circuits, ModuleRefusal}
 use Rattle.cb_model.specs.Carry.{IsCarrying, NetIn}
 use Rattle.cb_flat.specs.Walk.{placed_net}
 use Rattle.cb_flat.proofs.Accepted.{accepted_carries, IsAccepted, accepted-has}
-use Rattle.cb_netlist.specs.declared.netlist.Part as circ
 use Rattle.cb_netlist.specs.declared.netlist.Part.TheVariants as part
 use Rattle.cb_netlist.specs.Wiring.{Wiring, no_wiring}
 use Rattle.cb_netlist.specs.Netlists.{flat_at, IsNetlist, AreNetlists}

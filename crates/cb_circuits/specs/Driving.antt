@@ -1,13 +1,12 @@
 -- What drives the nets of a module, by numbers.
-use Rattle.std.specs.Prelude.{◌≡◌, ℕ, suc, ◌+◌, ◌<◌, ◌≤◌, ◌^◌, Option, None, List, [], ◌∷◌, ◌++◌, map, length, get_or, slice_get, slice_set, Some, flat_map, position, bytes_eq, Contains}
+use Rattle.std.specs.Prelude.{◌≡◌, ℕ, suc, ◌+◌, ◌<◌, ◌≤◌, ◌^◌, None, List, [], ◌∷◌, ◌++◌, map, length, get_or, slice_get, slice_set, Some, flat_map, position, bytes_eq, Contains}
 use Rattle.cb_model.specs.Text.{Text}
-use Rattle.cb_model.specs.Circuits.{Net, Flat, Module, Instance, Placed, gate_flat, no_flat, net_number, driver_within}
+use Rattle.cb_model.specs.Circuits.{Net, Flat, Module, Instance, gate_flat, no_flat, net_number, driver_within}
 use Rattle.cb_model.specs.Bits.{Each}
 use Rattle.cb_model.specs.Circuits.{flat}
 use Rattle.cb_model.specs.Facts.{ModuleRefusal, nets}
 use Rattle.cb_model.specs.Carry.{IsCarrying}
-use Rattle.cb_flat.specs.Walk.{Filled, placed_net, part_gates}
-use Rattle.cb_flat.specs.Acyclic.{instance_graph}
+use Rattle.cb_flat.specs.Walk.{placed_net, part_gates}
 use Rattle.cb_flat.specs.Drivers.{numbered_gates}
 use Rattle.cb_flat.specs.Flatten.{placed_of}
 use Rattle.cb_netlist.specs.Wiring.{Wiring}

@@ -1,4 +1,4 @@
-use Rattle.std.proofs.Common.{◌≡◌, ◌+◌, ◌++◌, drop, length, map}
+use Rattle.std.proofs.Common.{◌≡◌, ◌+◌, ◌++◌, drop, map}
 use Rattle.cb_flat.specs.Walk.{placed_net}
 use Rattle.cb_circuits.specs.Marks.{AreWithin}
 use Rattle.cb_circuits.proofs.drivers.module_outs.Given as goal

@@ -1,7 +1,6 @@
-use Rattle.std.proofs.Common.{◌+◌, ◌<◌, ◌++◌, length, get_or, drop, [], refl, ap, sym, ◌∙◌, arith}
+use Rattle.std.proofs.Common.{length, get_or, [], refl, ap, sym, ◌∙◌, arith}
 use Rattle.std.proofs.lemmas.List.{get_or_read, length-map}
 use Rattle.cb_circuits.specs.View.{module_view}
-use Rattle.cb_circuits.specs.Driving.{values_at, set_all}
 use Rattle.cb_circuits.proofs.Marking.{within-as, ins-at, outs-at}
 use Rattle.cb_circuits.proofs.Driving.{put-long}
 use Rattle.cb_flat.proofs.Accepted.{accepted-has}

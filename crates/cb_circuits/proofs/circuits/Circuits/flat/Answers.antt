@@ -32,4 +32,3 @@ returns-clause-nets c = known-nets c.self.inside.netlists.items c.args.self.now.
 
 pub returns-clause-small : goal.returns-clause-small
 returns-clause-small c = known-small c.self.inside.netlists.items c.args.self.now.flats (are c.self.inside.modules.items c.self.inside.netlists.items c.self.inside.names c.self.inside.specs.items c.self.inside.spec_names c.args.self.now c.self.view_is c.self.invariant c.args.m c.requires) c.args.m c.flatten.result (subst (λ ns. IfOk c.flatten.result (λ k. (gs : List Flat) → AreNetlists gs ns → k ≡ circuit_of (flat_at gs c.args.m))) c.as_slice.ensures.value c.flatten.ensures) (small-flat c.self.inside.modules.items c.self.inside.netlists.items c.self.inside.names c.self.inside.specs.items c.self.inside.spec_names c.args.self.now c.self.view_is c.self.invariant c.args.m c.requires)
-

@@ -1,4 +1,4 @@
-use Rattle.std.proofs.Common.{◌+◌, ◌<◌, ◌++◌, min, length, take, drop, get_or, [], refl, ap, sym, subst, ◌∙◌, arith, append-nil}
+use Rattle.std.proofs.Common.{◌+◌, ◌<◌, ◌++◌, min, length, drop, get_or, [], refl, ap, sym, subst, ◌∙◌, arith, append-nil}
 use Rattle.std.proofs.lemmas.List.{length-map, take_all}
 use Rattle.cb_model.specs.Circuits.{placed_from, part_of}
 use Rattle.cb_flat.specs.Flatten.{placed_of}

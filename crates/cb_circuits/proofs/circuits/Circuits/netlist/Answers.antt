@@ -1,6 +1,5 @@
-use Rattle.std.proofs.Common.{◌≡◌, ◌+◌, ◌<◌, ◌^◌, length, ap, sym, subst, ◌∙◌, arith, rules}
+use Rattle.std.proofs.Common.{◌+◌, ◌<◌, ◌^◌, length, ap, sym, subst, ◌∙◌, rules}
 use Rattle.cb_flat.proofs.Accepted.{accepted-has}
-use Rattle.cb_netlist.specs.Wiring.{bare_wiring}
 use Rattle.cb_circuits.specs.View.{module_view}
 use Rattle.cb_circuits.specs.Driving.{IsTable}
 use Rattle.cb_circuits.proofs.Marking.{within-as, outputs-within}

@@ -1,4 +1,4 @@
-use Rattle.std.proofs.Common.{◌≡◌, ◌+◌, ◌<◌, ◌^◌, length, ap, sym, subst, ◌∙◌, arith}
+use Rattle.std.proofs.Common.{ap, sym, subst, ◌∙◌, arith}
 use Rattle.cb_model.specs.Facts.{with_module}
 use Rattle.cb_circuits.specs.declared.circuits.Entry.{Entry}
 use Rattle.cb_circuits.specs.Kept.{IsKept, AreWired}
