@@ -1,3 +1,5 @@
+use Rattle.cb_heap.specs.Heap.{Terms}
+use Rattle.cb_unify.proofs.Solving.{settled-cells}
 use Rattle.std.proofs.Common.{length, ap, arith, length-append, ◌∷◌, []}
 use Rattle.cb_elim.specs.Store.{Seen as Booleans}
 use Rattle.cb_unify.proofs.Inside.{seen}
@@ -17,3 +19,6 @@ returns-clause-leaf c =
 
 pub returns-clause-state : goal.returns-clause-state
 returns-clause-state c = (returns-clause-leaf c).added.state
+
+pub invariant_of-self-2 : goal.invariant_of-self-2
+invariant_of-self-2 c = settled-cells c.self.inside.settled c.self.inside.heap.cells c.add.new.self.cells _ (ap (λ (t : Terms). t.cells) c.in_ok-r.ensures.added.1) c.self.invariant
