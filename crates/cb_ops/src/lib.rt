@@ -9,6 +9,7 @@ ghost use Rattle.cb_ops.specs.Substitute.{AreNodes, AllSubstituted, SubstituteCa
 ghost use Rattle.cb_dd.specs.Diagram.{Store, IsDiagram, IsCanonical, IsNode, IsChild, IsFull, HasParts, Holds, function_of, level_of, fulls_after, parts_of, triple};
 ghost use Rattle.std.specs.List.Sorted.{IsStrictlyIncreasing};
 ghost use Rattle.cb_ops.specs.Ops.{Grows, StandsFor, IsIte, IsXor, IsCofactor, Room, HasCause, DependsOn, IsFree, IsLeastTrue, IsLeastSide};
+ghost use Rattle.cb_ops.specs.Makes.{Makes};
 ghost use Rattle.cb_ops.specs.Call.{IsSameCall};
 ghost use Rattle.cb_ops.specs.Waiting.{AreCalled, Asked, Resumed, Waits, IsHalf, IsAnswered, IsValue, bit_of, made_of, fulls_after_turn};
 ghost use Rattle.cb_ops.specs.Pair.{IsSamePair};
@@ -232,15 +233,8 @@ impl Ops {
         requires f { IsNode self.old.triples f.0 }
         requires g { IsNode self.old.triples g.0 }
         requires h { IsNode self.old.triples h.0 }
-        ensures is_node { IfOk result (λ n. IsNode self.new.triples n.0) }
         ensures function { IfOk result (λ n. IsIte self.old.triples self.new.triples f.0 g.0 h.0 n.0) }
-        ensures grows { Grows self.old self.new }
-        ensures room { Room (f.0 ∷ g.0 ∷ h.0 ∷ []) 1 self.old self.new }
-        ensures full { result ≡ Err Stop.Nodes → length self.new.triples ≡ self.new.budget }
-        ensures nodes { result ≡ Err Stop.Nodes → HasCause (f.0 ∷ g.0 ∷ h.0 ∷ []) 1 self.old self.new }
-        ensures unbounded { self.old.budget ≡ 2 ^ 64 - 1 → result ≢ Err Stop.Nodes }
-        ensures fulls { self.new.fulls ≡ fulls_after self.old.fulls result }
-        ensures diagram { IsDiagram self.new.triples }
+        ensures made { Makes (f.0 ∷ g.0 ∷ h.0 ∷ []) 1 self.old self.new result }
     {
         self.run(Choice {
             operation: Operation::Ite,
@@ -353,16 +347,9 @@ impl Ops {
     /// The node that is 1 where f is 0.
     pub fn not(&mut self, f: Node) -> Result<Node, Stop>
         requires { IsNode self.old.triples f.0 }
-        ensures is_node { IfOk result (λ n. IsNode self.new.triples n.0) }
         ensures function { IfOk result (λ n. StandsFor self.new.triples n.0 (λ a.
             not (function_of self.old.triples f.0 a))) }
-        ensures grows { Grows self.old self.new }
-        ensures room { Room (f.0 ∷ []) 1 self.old self.new }
-        ensures full { result ≡ Err Stop.Nodes → length self.new.triples ≡ self.new.budget }
-        ensures nodes { result ≡ Err Stop.Nodes → HasCause (f.0 ∷ []) 1 self.old self.new }
-        ensures unbounded { self.old.budget ≡ 2 ^ 64 - 1 → result ≢ Err Stop.Nodes }
-        ensures fulls { self.new.fulls ≡ fulls_after self.old.fulls result }
-        ensures diagram { IsDiagram self.new.triples }
+        ensures made { Makes (f.0 ∷ []) 1 self.old self.new result }
     {
         self.ite(f, Node::ZERO, Node::ONE)
     }
@@ -371,16 +358,9 @@ impl Ops {
     pub fn and(&mut self, f: Node, g: Node) -> Result<Node, Stop>
         requires f { IsNode self.old.triples f.0 }
         requires g { IsNode self.old.triples g.0 }
-        ensures is_node { IfOk result (λ n. IsNode self.new.triples n.0) }
         ensures function { IfOk result (λ n. StandsFor self.new.triples n.0 (λ a.
             function_of self.old.triples f.0 a && function_of self.old.triples g.0 a)) }
-        ensures grows { Grows self.old self.new }
-        ensures room { Room (f.0 ∷ g.0 ∷ []) 1 self.old self.new }
-        ensures full { result ≡ Err Stop.Nodes → length self.new.triples ≡ self.new.budget }
-        ensures nodes { result ≡ Err Stop.Nodes → HasCause (f.0 ∷ g.0 ∷ []) 1 self.old self.new }
-        ensures unbounded { self.old.budget ≡ 2 ^ 64 - 1 → result ≢ Err Stop.Nodes }
-        ensures fulls { self.new.fulls ≡ fulls_after self.old.fulls result }
-        ensures diagram { IsDiagram self.new.triples }
+        ensures made { Makes (f.0 ∷ g.0 ∷ []) 1 self.old self.new result }
     {
         self.ite(f, g, Node::ZERO)
     }
@@ -389,16 +369,9 @@ impl Ops {
     pub fn or(&mut self, f: Node, g: Node) -> Result<Node, Stop>
         requires f { IsNode self.old.triples f.0 }
         requires g { IsNode self.old.triples g.0 }
-        ensures is_node { IfOk result (λ n. IsNode self.new.triples n.0) }
         ensures function { IfOk result (λ n. StandsFor self.new.triples n.0 (λ a.
             function_of self.old.triples f.0 a || function_of self.old.triples g.0 a)) }
-        ensures grows { Grows self.old self.new }
-        ensures room { Room (f.0 ∷ g.0 ∷ []) 1 self.old self.new }
-        ensures full { result ≡ Err Stop.Nodes → length self.new.triples ≡ self.new.budget }
-        ensures nodes { result ≡ Err Stop.Nodes → HasCause (f.0 ∷ g.0 ∷ []) 1 self.old self.new }
-        ensures unbounded { self.old.budget ≡ 2 ^ 64 - 1 → result ≢ Err Stop.Nodes }
-        ensures fulls { self.new.fulls ≡ fulls_after self.old.fulls result }
-        ensures diagram { IsDiagram self.new.triples }
+        ensures made { Makes (f.0 ∷ g.0 ∷ []) 1 self.old self.new result }
     {
         self.ite(f, Node::ONE, g)
     }
@@ -407,16 +380,9 @@ impl Ops {
     pub fn xor(&mut self, f: Node, g: Node) -> Result<Node, Stop>
         requires f { IsNode self.old.triples f.0 }
         requires g { IsNode self.old.triples g.0 }
-        ensures is_node { IfOk result (λ n. IsNode self.new.triples n.0) }
         ensures function { IfOk result (λ n. StandsFor self.new.triples n.0 (λ a.
             xor (function_of self.old.triples f.0 a) (function_of self.old.triples g.0 a))) }
-        ensures grows { Grows self.old self.new }
-        ensures room { Room (f.0 ∷ g.0 ∷ []) 2 self.old self.new }
-        ensures full { result ≡ Err Stop.Nodes → length self.new.triples ≡ self.new.budget }
-        ensures nodes { result ≡ Err Stop.Nodes → HasCause (f.0 ∷ g.0 ∷ []) 2 self.old self.new }
-        ensures unbounded { self.old.budget ≡ 2 ^ 64 - 1 → result ≢ Err Stop.Nodes }
-        ensures fulls { self.new.fulls ≡ fulls_after self.old.fulls result }
-        ensures diagram { IsDiagram self.new.triples }
+        ensures made { Makes (f.0 ∷ g.0 ∷ []) 2 self.old self.new result }
     {
         self.run(Choice {
             operation: Operation::Xor,

@@ -6,6 +6,7 @@ ghost use Rattle.cb_dd.specs.Diagram.{IsDiagram, IsNode, function_of, fulls_afte
 ghost use Rattle.cb_ops.specs.Ops.{Grows, StandsFor, Room, HasCause};
 ghost use Rattle.cb_ops.specs.Substitute.{AreNodes, AllSubstituted, SubstituteCause, SubstituteRoom, IsJoined, JoinRoom, image_of, substituted};
 ghost use Rattle.cb_ops.specs.Composed.{AreLower, ComposedRoom, ComposedCause, LevelRoom, is_replaced};
+ghost use Rattle.cb_ops.specs.Makes.{Makes, MakesNode};
 ghost use Rattle.cb_ops.specs.Walk.{AllMade, IsMadeSide, IsVisit, WentDown, WentUp, PutRoom, images_of, side_of, fulls_after_step};
 
 use crate::walk::{Rest, Step, Visit};
@@ -22,17 +23,10 @@ impl Ops {
     pub fn compose(&mut self, f: Node, level: u32, g: Node) -> Result<Node, Stop>
         requires f { IsNode self.old.triples f.0 }
         requires g { IsNode self.old.triples g.0 }
-        ensures is_node { IfOk result (λ n. IsNode self.new.triples n.0) }
         ensures function { IfOk result (λ n. StandsFor self.new.triples n.0 (λ a.
             function_of self.old.triples f.0
             (put level (function_of self.old.triples g.0 a) a))) }
-        ensures grows { Grows self.old self.new }
-        ensures room { Room (f.0 ∷ g.0 ∷ []) 3 self.old self.new }
-        ensures full { result ≡ Err Stop.Nodes → length self.new.triples ≡ self.new.budget }
-        ensures nodes { result ≡ Err Stop.Nodes → HasCause (f.0 ∷ g.0 ∷ []) 3 self.old self.new }
-        ensures unbounded { self.old.budget ≡ 2 ^ 64 - 1 → result ≢ Err Stop.Nodes }
-        ensures fulls { self.new.fulls ≡ fulls_after self.old.fulls result }
-        ensures diagram { IsDiagram self.new.triples }
+        ensures made { Makes (f.0 ∷ g.0 ∷ []) 3 self.old self.new result }
     {
         let low = self.restrict(f, level, false)?;
         let high = self.restrict(f, level, true)?;
@@ -50,17 +44,12 @@ impl Ops {
         requires nodes { AreNodes self.old.triples list.now }
         requires rise { IsStrictlyIncreasing (map (λ p. p.0) list.now) }
         requires lower { AreLower self.old.triples list.now }
-        ensures is_node { IfOk result (λ n. IsNode self.new.triples n.0) }
         ensures function { IfOk result (λ n. StandsFor self.new.triples n.0 (λ a.
             function_of self.old.triples f.0
             (substituted self.old.triples list.now a))) }
-        ensures grows { Grows self.old self.new }
+        ensures made { MakesNode self.old self.new result }
         ensures room { ComposedRoom f.0 list.now self.old self.new }
-        ensures full { result ≡ Err Stop.Nodes → length self.new.triples ≡ self.new.budget }
         ensures nodes { result ≡ Err Stop.Nodes → ComposedCause f.0 list.now self.old self.new }
-        ensures unbounded { self.old.budget ≡ 2 ^ 64 - 1 → result ≢ Err Stop.Nodes }
-        ensures fulls { self.new.fulls ≡ fulls_after self.old.fulls result }
-        ensures diagram { IsDiagram self.new.triples }
     {
         let _count = self.count();
         let Ok(levels) = self.support(f) else {
@@ -103,17 +92,12 @@ impl Ops {
         requires f { IsNode self.old.triples f.0 }
         requires nodes { AreNodes self.old.triples list.now }
         requires rise { IsStrictlyIncreasing (map (λ p. p.0) list.now) }
-        ensures is_node { IfOk result (λ n. IsNode self.new.triples n.0) }
         ensures function { IfOk result (λ n. StandsFor self.new.triples n.0 (λ a.
             function_of self.old.triples f.0
             (substituted self.old.triples list.now a))) }
-        ensures grows { Grows self.old self.new }
+        ensures made { MakesNode self.old self.new result }
         ensures room { SubstituteRoom f.0 list.now self.old self.new }
-        ensures full { result ≡ Err Stop.Nodes → length self.new.triples ≡ self.new.budget }
         ensures nodes { result ≡ Err Stop.Nodes → SubstituteCause f.0 list.now self.old self.new }
-        ensures unbounded { self.old.budget ≡ 2 ^ 64 - 1 → result ≢ Err Stop.Nodes }
-        ensures fulls { self.new.fulls ≡ fulls_after self.old.fulls result }
-        ensures diagram { IsDiagram self.new.triples }
     {
         let mut done = IndexMap::new(*self.memo.allocator());
         let n = self.substitute_in(f, list, &mut done)?;
@@ -131,17 +115,12 @@ impl Ops {
         requires nodes { AreNodes self.old.triples list.now }
         requires rise { IsStrictlyIncreasing (map (λ p. p.0) list.now) }
         requires done { AllSubstituted done.old self.old.triples list.now }
-        ensures is_node { IfOk result (λ n. IsNode self.new.triples n.0) }
         ensures function { IfOk result (λ n. StandsFor self.new.triples n.0 (λ a.
             function_of self.old.triples f.0
             (substituted self.old.triples list.now a))) }
-        ensures grows { Grows self.old self.new }
+        ensures made { MakesNode self.old self.new result }
         ensures room { SubstituteRoom f.0 list.now self.old self.new }
-        ensures full { result ≡ Err Stop.Nodes → length self.new.triples ≡ self.new.budget }
         ensures nodes { result ≡ Err Stop.Nodes → SubstituteCause f.0 list.now self.old self.new }
-        ensures unbounded { self.old.budget ≡ 2 ^ 64 - 1 → result ≢ Err Stop.Nodes }
-        ensures fulls { self.new.fulls ≡ fulls_after self.old.fulls result }
-        ensures diagram { IsDiagram self.new.triples }
         ensures done { AllSubstituted done.new self.new.triples list.now }
     {
         let _count = self.count();

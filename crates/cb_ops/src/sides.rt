@@ -3,6 +3,7 @@ ghost use Rattle.std.specs.Prelude.{◌≡◌, ◌≢◌, ◌&&◌, ◌||◌, �
 ghost use Rattle.cb_model.specs.Bits.{put};
 ghost use Rattle.cb_dd.specs.Diagram.{IsDiagram, IsNode, function_of, fulls_after};
 ghost use Rattle.cb_ops.specs.Ops.{Grows, StandsFor, Room, HasCause};
+ghost use Rattle.cb_ops.specs.Makes.{Makes};
 ghost use Rattle.cb_ops.specs.Walk.{AllMade, IsMadeSide, IsVisit, IsStill, WentDown, WentUp, joined, joins, side_of, sides_of, fulls_after_step};
 
 use crate::walk::{Rest, Step, Visit};
@@ -23,16 +24,9 @@ impl Ops {
     /// The node with that bit at the level: a cofactor.
     pub fn restrict(&mut self, f: Node, level: u32, bit: bool) -> Result<Node, Stop>
         requires { IsNode self.old.triples f.0 }
-        ensures is_node { IfOk result (λ n. IsNode self.new.triples n.0) }
         ensures function { IfOk result (λ n. StandsFor self.new.triples n.0 (λ a.
             function_of self.old.triples f.0 (put level bit a))) }
-        ensures grows { Grows self.old self.new }
-        ensures room { Room (f.0 ∷ []) 1 self.old self.new }
-        ensures full { result ≡ Err Stop.Nodes → length self.new.triples ≡ self.new.budget }
-        ensures nodes { result ≡ Err Stop.Nodes → HasCause (f.0 ∷ []) 1 self.old self.new }
-        ensures unbounded { self.old.budget ≡ 2 ^ 64 - 1 → result ≢ Err Stop.Nodes }
-        ensures fulls { self.new.fulls ≡ fulls_after self.old.fulls result }
-        ensures diagram { IsDiagram self.new.triples }
+        ensures made { Makes (f.0 ∷ []) 1 self.old self.new result }
     {
         if bit {
             return self.join_sides(f, level, Sides::High);
@@ -43,17 +37,10 @@ impl Ops {
     /// The node that is 1 where the node is for some bit at the level.
     pub fn exists(&mut self, f: Node, level: u32) -> Result<Node, Stop>
         requires { IsNode self.old.triples f.0 }
-        ensures is_node { IfOk result (λ n. IsNode self.new.triples n.0) }
         ensures function { IfOk result (λ n. StandsFor self.new.triples n.0 (λ a.
             function_of self.old.triples f.0 (put level false a)
             || function_of self.old.triples f.0 (put level true a))) }
-        ensures grows { Grows self.old self.new }
-        ensures room { Room (f.0 ∷ []) 3 self.old self.new }
-        ensures full { result ≡ Err Stop.Nodes → length self.new.triples ≡ self.new.budget }
-        ensures nodes { result ≡ Err Stop.Nodes → HasCause (f.0 ∷ []) 3 self.old self.new }
-        ensures unbounded { self.old.budget ≡ 2 ^ 64 - 1 → result ≢ Err Stop.Nodes }
-        ensures fulls { self.new.fulls ≡ fulls_after self.old.fulls result }
-        ensures diagram { IsDiagram self.new.triples }
+        ensures made { Makes (f.0 ∷ []) 3 self.old self.new result }
     {
         self.join_sides(f, level, Sides::Either)
     }
@@ -61,17 +48,10 @@ impl Ops {
     /// The node that is 1 where the node is for both bits at the level.
     pub fn for_all(&mut self, f: Node, level: u32) -> Result<Node, Stop>
         requires { IsNode self.old.triples f.0 }
-        ensures is_node { IfOk result (λ n. IsNode self.new.triples n.0) }
         ensures function { IfOk result (λ n. StandsFor self.new.triples n.0 (λ a.
             function_of self.old.triples f.0 (put level false a)
             && function_of self.old.triples f.0 (put level true a))) }
-        ensures grows { Grows self.old self.new }
-        ensures room { Room (f.0 ∷ []) 1 self.old self.new }
-        ensures full { result ≡ Err Stop.Nodes → length self.new.triples ≡ self.new.budget }
-        ensures nodes { result ≡ Err Stop.Nodes → HasCause (f.0 ∷ []) 1 self.old self.new }
-        ensures unbounded { self.old.budget ≡ 2 ^ 64 - 1 → result ≢ Err Stop.Nodes }
-        ensures fulls { self.new.fulls ≡ fulls_after self.old.fulls result }
-        ensures diagram { IsDiagram self.new.triples }
+        ensures made { Makes (f.0 ∷ []) 1 self.old self.new result }
     {
         self.join_sides(f, level, Sides::Both)
     }

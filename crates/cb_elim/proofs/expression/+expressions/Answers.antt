@@ -31,7 +31,7 @@ expression-returns-in_err-node-in-Not-clause-room t c = not-first c.args.slots.n
 
 pub expression-returns-in_ok-node-in-Not-clause-room : goal.expression-returns-in_ok-node-in-Not-clause-room
 expression-returns-in_ok-node-in-Not-clause-room t c =
-    not-room c.args.slots.now c.args.vars.now c.args.e.now c.in-Not.x c.get.result.now c.in-Not.is c.get.ensures c.args.ops.now c.expression.new.ops c.not.new.self c.expression.ensures.grows c.requires c.expression.ensures.room c.in_ok-node-in-Not.node.0 c.in_ok-node-in-Not.ensures.function c.not.ensures.room
+    not-room c.args.slots.now c.args.vars.now c.args.e.now c.in-Not.x c.get.result.now c.in-Not.is c.get.ensures c.args.ops.now c.expression.new.ops c.not.new.self c.expression.ensures.grows c.requires c.expression.ensures.room c.in_ok-node-in-Not.node.0 c.in_ok-node-in-Not.ensures.function c.not.ensures.made.room
 
 pub expression-returns-in-And-clause-room : goal.expression-returns-in-And-clause-room
 expression-returns-in-And-clause-room t c =

@@ -16,4 +16,4 @@ pub returns-clause-function : goal.returns-clause-function
 returns-clause-function c = IfOk-weaker c.ite.result _ _ (λ r h. image-joined c.args.self.now c.ite.new.self c.args.level c.in-Some.choice.0 c.args.low.0 c.args.high.0 c.args.list.now r.0 c.in-Some.choice (sym c.in-Some.ensures) refl h) c.ite.ensures.function
 
 pub returns-clause-room : goal.returns-clause-room
-returns-clause-room c = image-room c.args.self.now c.ite.new.self c.args.level c.args.low.0 c.args.high.0 c.args.list.now c.in-Some.choice (sym c.in-Some.ensures) c.ite.ensures.room
+returns-clause-room c = image-room c.args.self.now c.ite.new.self c.args.level c.args.low.0 c.args.high.0 c.args.list.now c.in-Some.choice (sym c.in-Some.ensures) c.ite.ensures.made.room

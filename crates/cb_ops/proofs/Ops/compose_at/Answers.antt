@@ -18,7 +18,7 @@ pub returns-clause-function : goal.returns-clause-function
 returns-clause-function c = IfOk-weaker c.compose.result _ _ (λ r h. level-some c.args.self.now.triples c.compose.new.self.triples c.args.list.now c.args.f.0 c.args.level c.in-Some.g r.0 (sym c.in-Some.ensures) h) c.compose.ensures.function
 
 pub returns-clause-room : goal.returns-clause-room
-returns-clause-room c = level-room c.args.self.now c.compose.new.self c.args.list.now c.args.f.0 c.args.level c.in-Some.g (sym c.in-Some.ensures) c.compose.ensures.room
+returns-clause-room c = level-room c.args.self.now c.compose.new.self c.args.list.now c.args.f.0 c.args.level c.in-Some.g (sym c.in-Some.ensures) c.compose.ensures.made.room
 
 pub returns-clause-replaced : goal.returns-clause-replaced
 returns-clause-replaced c = λ h. ap is_some (sym c.in-Some.ensures)

@@ -5,6 +5,7 @@ use Rattle.cb_ops.specs.Walk.{images_of}
 use Rattle.cb_ops.proofs.Ite.{Grows-same, Grows-then}
 use Rattle.cb_ops.proofs.Substitute.{grown-nodes}
 use Rattle.cb_ops.proofs.Walks.{Walking, walk_work, walking-start, walking-node, walking-same, walking-visit, walking-side, walking-trail, joined-room, walking-up, up-work, walking-answer, walking-room, went-down, went-work}
+use Rattle.cb_ops.proofs.Made.{made-ok}
 use Rattle.cb_ops.proofs.Replaced.{spread, no_levels, images-stay, spread-is, put-one, images-full, images-cause, as-made, as-substituted}
 use Rattle.cb_ops.proofs.Ops.substitute_in.Goals as goal
 
@@ -50,12 +51,13 @@ returns-in_default-clause-function c =
     let m = walking-answer (images_of c.args.list.now) (2 ^ 32) (2 ^ length no_levels) (spread c.args.list.now no_levels) c.args.self.now c.loop-step.self c.args.f c.in-Up.r e in
     record { at = λ a. m.is a ∙ (images-stay c.args.list.now c.args.self.now c.requires.nodes) c.args.self.now c.loop-step.self (Grows-same c.args.self.now) c.loop-step.invariant.0.grows c.args.f.0 c.requires.f a }
 
-pub returns-in_default-clause-is_node : goal.returns-in_default-clause-is_node
-returns-in_default-clause-is_node c =
+pub returns-in_default-clause-made : goal.returns-in_default-clause-made
+returns-in_default-clause-made c =
     let none : c.loop-step.waiting.items ≡ [] = search rules in
     let g = walking-same (images_of c.args.list.now) (2 ^ 32) (2 ^ length no_levels) (spread c.args.list.now no_levels) c.args.self.now c.args.f c.loop-step.self c.loop-step.waiting.items c.loop-step.step (step.Up c.in-Up.r) c.in-Up.is (c.loop-step.invariant.0) in
     let e = subst (λ xs. Walking (images_of c.args.list.now) (2 ^ 32) (2 ^ length no_levels) (spread c.args.list.now no_levels) c.args.self.now c.loop-step.self c.args.f xs (step.Up c.in-Up.r)) none g in
-    (walking-answer (images_of c.args.list.now) (2 ^ 32) (2 ^ length no_levels) (spread c.args.list.now no_levels) c.args.self.now c.loop-step.self c.args.f c.in-Up.r e).answer
+    let i = c.loop-step.invariant.0 in
+    made-ok c.args.self.now c.loop-step.self c.in-Up.r (walking-answer (images_of c.args.list.now) (2 ^ 32) (2 ^ length no_levels) (spread c.args.list.now no_levels) c.args.self.now c.loop-step.self c.args.f c.in-Up.r e).answer i.grows i.fulls i.diagram
 
 pub returns-in_default-clause-room : goal.returns-in_default-clause-room
 returns-in_default-clause-room c =

@@ -19,7 +19,7 @@ expression-returns-in-Var-clause-function t c =
 
 pub expression-returns-in_ok-node-in-Not-clause-room : goal.expression-returns-in_ok-node-in-Not-clause-room
 expression-returns-in_ok-node-in-Not-clause-room t c =
-    not-room c.args.ops.now c.expression.new.ops c.not.new.self c.args.inputs.now c.in-Not.x c.args.e.now c.get.result.now c.in_ok-node-in-Not.node c.in-Not.is c.get.ensures c.in_ok-node-in-Not.ensures.function c.expression.ensures.room (one-room c.expression.new.ops c.not.new.self c.in_ok-node-in-Not.node c.not.ensures.room)
+    not-room c.args.ops.now c.expression.new.ops c.not.new.self c.args.inputs.now c.in-Not.x c.args.e.now c.get.result.now c.in_ok-node-in-Not.node c.in-Not.is c.get.ensures c.in_ok-node-in-Not.ensures.function c.expression.ensures.room (one-room c.expression.new.ops c.not.new.self c.in_ok-node-in-Not.node c.not.ensures.made.room)
 
 pub expression-returns-in_ok-all-in-And-clause-room : goal.expression-returns-in_ok-all-in-And-clause-room
 expression-returns-in_ok-all-in-And-clause-room t c =

@@ -6,21 +6,21 @@ use Rattle.cb_verify.proofs.least.least_input.Goals as goal
 
 pub returns-in_err-differ-clause-room : goal.returns-in_err-differ-clause-room
 returns-in_err-differ-clause-room c =
-    place-within c.args.ops.now c.loop-i.ops c.xor.new.self c.loop-i.invariant.grows c.xor.ensures.grows c.args.got.now c.args.wanted.now c.args.levels.now c.requires.got c.requires.wanted c.requires.as_many c.loop-i.i c.loop-i-test.true (record { 0 = 0 }) c.loop-i.invariant.room c.xor.ensures.room
+    place-within c.args.ops.now c.loop-i.ops c.xor.new.self c.loop-i.invariant.grows c.xor.ensures.made.grows c.args.got.now c.args.wanted.now c.args.levels.now c.requires.got c.requires.wanted c.requires.as_many c.loop-i.i c.loop-i-test.true (record { 0 = 0 }) c.loop-i.invariant.room c.xor.ensures.made.room
 
 pub least_row-requires-clause-support : goal.least_row-requires-clause-support
 least_row-requires-clause-support c =
-    place-depends c.args.ops.now c.loop-i.ops c.xor.new.self c.loop-i.invariant.grows c.xor.ensures.grows c.args.got.now c.args.wanted.now c.args.levels.now c.requires.got c.requires.wanted c.requires.as_many c.loop-i.i c.loop-i-test.true (record { 0 = 0 }) c.in_ok-differ.differ c.in_ok-differ.ensures.function.at
+    place-depends c.args.ops.now c.loop-i.ops c.xor.new.self c.loop-i.invariant.grows c.xor.ensures.made.grows c.args.got.now c.args.wanted.now c.args.levels.now c.requires.got c.requires.wanted c.requires.as_many c.loop-i.i c.loop-i-test.true (record { 0 = 0 }) c.in_ok-differ.differ c.in_ok-differ.ensures.function.at
 
 pub returns-in_default-clause-room : goal.returns-in_default-clause-room
 returns-in_default-clause-room c =
-    place-within c.args.ops.now c.loop-i.ops c.xor.new.self c.loop-i.invariant.grows c.xor.ensures.grows c.args.got.now c.args.wanted.now c.args.levels.now c.requires.got c.requires.wanted c.requires.as_many c.loop-i.i c.loop-i-test.true (record { 0 = 0 }) c.loop-i.invariant.room c.xor.ensures.room
+    place-within c.args.ops.now c.loop-i.ops c.xor.new.self c.loop-i.invariant.grows c.xor.ensures.made.grows c.args.got.now c.args.wanted.now c.args.levels.now c.requires.got c.requires.wanted c.requires.as_many c.loop-i.i c.loop-i-test.true (record { 0 = 0 }) c.loop-i.invariant.room c.xor.ensures.made.room
 
 pub loop-i-preserved : goal.loop-i-preserved
 loop-i-preserved c = record {
-  least = place-more c.args.ops.now c.loop-i.ops c.xor.new.self c.loop-i.invariant.grows c.xor.ensures.grows c.args.got.now c.args.wanted.now c.args.levels.now c.requires.got c.requires.wanted c.requires.as_many c.loop-i.i c.loop-i-test.true (record { 0 = 0 }) c.in_ok-differ.differ c.in_ok-differ.ensures.function.at (row_of c.loop-i.least) (row_of c.in-Ok.row) (row_of c.lesser-least.result) c.loop-i.invariant.least c.in-Ok.ensures c.lesser-least.ensures;
-  grows = Grows-then c.args.ops.now c.loop-i.ops c.xor.new.self c.loop-i.invariant.grows c.xor.ensures.grows;
-  room = place-room c.args.ops.now c.loop-i.ops c.xor.new.self c.loop-i.invariant.grows c.xor.ensures.grows c.args.got.now c.args.wanted.now c.args.levels.now c.requires.got c.requires.wanted c.requires.as_many c.loop-i.i c.loop-i-test.true (record { 0 = 0 }) c.loop-i.invariant.room c.xor.ensures.room;
+  least = place-more c.args.ops.now c.loop-i.ops c.xor.new.self c.loop-i.invariant.grows c.xor.ensures.made.grows c.args.got.now c.args.wanted.now c.args.levels.now c.requires.got c.requires.wanted c.requires.as_many c.loop-i.i c.loop-i-test.true (record { 0 = 0 }) c.in_ok-differ.differ c.in_ok-differ.ensures.function.at (row_of c.loop-i.least) (row_of c.in-Ok.row) (row_of c.lesser-least.result) c.loop-i.invariant.least c.in-Ok.ensures c.lesser-least.ensures;
+  grows = Grows-then c.args.ops.now c.loop-i.ops c.xor.new.self c.loop-i.invariant.grows c.xor.ensures.made.grows;
+  room = place-room c.args.ops.now c.loop-i.ops c.xor.new.self c.loop-i.invariant.grows c.xor.ensures.made.grows c.args.got.now c.args.wanted.now c.args.levels.now c.requires.got c.requires.wanted c.requires.as_many c.loop-i.i c.loop-i-test.true (record { 0 = 0 }) c.loop-i.invariant.room c.xor.ensures.made.room;
 }
 
 pub returns-clause-least : goal.returns-clause-least
