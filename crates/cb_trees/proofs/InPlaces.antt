@@ -1,6 +1,7 @@
 -- Arguments at their places.
 use Rattle.std.specs.Prelude.{IfOk, unwrap_or}
 use Rattle.std.specs.Bool.{if◌then◌else◌}
+use Rattle.std.specs.Borrow.{Bor}
 use Rattle.std.proofs.Common.{◌≡◌, ℕ, zero, suc, ◌+◌, ◌<◌, ◌≤◌, Bool, true, false, List, [], ◌∷◌, ◌++◌, drop, length, get_or, Option, Some, None, Result, Ok, Err, slice_get, bytes_eq, codes, refl, sym, ◌∙◌, ap, arith, add-one}
 use Rattle.std.proofs.lemmas.List.{append-nil, append_assoc}
 use Rattle.cb_model.specs.Text.{Text}
@@ -18,20 +19,19 @@ use Rattle.cb_model.specs.Forms.{form_of}
 use Rattle.cb_model.specs.Directives.{Declared, Sign, same_sign, nothing, sorts_of, count_of}
 use Rattle.cb_model.specs.Sorts.{own_name, apart, apart_all, Numbering, as_tree, as_trees, as_arguments, sign_number, circuit_sign}
 use Rattle.cb_directives.proofs.Reading.{count_forms, drop_past}
+use Rattle.cb_trees.specs.Places.{sorts_given}
 use Rattle.cb_trees.proofs.Walk.{all_forms, opened}
 
--- ---- undeclared sorts
+-- ---- the sort of a place
 
-pub undeclared_here : (x : Text) (n k : ℕ) → k < n → Some sort.Term ≡ slice_get (sorts_of nothing (x, n)) k
-undeclared_here x zero k h = absurd (omega arith)
-undeclared_here x (suc n) zero h = refl
-undeclared_here x (suc n) (suc k) h = undeclared_here x n k (omega arith)
+undeclared_at : (n k : ℕ) → k < length (sorts_of nothing ([], n)) → slice_get (sorts_of nothing ([], n)) k ≡ Some sort.Term
+undeclared_at zero k h = absurd (omega arith)
+undeclared_at (suc n) zero h = refl
+undeclared_at (suc n) (suc k) h = undeclared_at n k (omega arith)
 
-pub undeclared_past : (x : Text) (n k : ℕ) → n ≤ k → None ≡ slice_get (sorts_of nothing (x, n)) k
-undeclared_past x zero zero h = refl
-undeclared_past x zero (suc k) h = refl
-undeclared_past x (suc n) zero h = absurd (omega arith)
-undeclared_past x (suc n) (suc k) h = undeclared_past x n k (omega arith)
+pub undeclared_sort : (o : Option (Bor (List Sort))) (n k : ℕ) → o ≡ None → k < length (sorts_given o n) → slice_get (sorts_given o n) k ≡ Some sort.Term
+undeclared_sort None n k e h = undeclared_at n k h
+undeclared_sort (Some s) n k e h = absurd (cc)
 
 -- ---- a name with its arguments
 
@@ -57,16 +57,6 @@ sort_here [] (suc i) s h = absurd (cc)
 sort_here (x ∷ ss) zero s h = let e : x ≡ s = cc in ap (λ (y : Sort). y ∷ ss) e
 sort_here (x ∷ ss) (suc i) s h = sort_here ss i s h
 
-sort_past : (ss : List Sort) (i : ℕ) → None ≡ slice_get ss i → (drop i ss ≡ []) × (drop (suc i) ss ≡ [])
-sort_past [] zero h = (refl, refl)
-sort_past [] (suc i) h = (refl, refl)
-sort_past (x ∷ ss) zero h = absurd (cc)
-sort_past (x ∷ ss) (suc i) h = sort_past ss i h
-
-no_trees : (d : Declared) (n : Numbering) (fs : Forms) → as_trees d n [] fs ≡ []
-no_trees d n Last = refl
-no_trees d n (More f fs) = refl
-
 module _ (d : Declared) (n : Numbering) (ss : List Sort) (ts : List RawTerm) (i : ℕ) (t : RawTerm) (h : i < length ts) (at : t ≡ get_or ts i t) where
   pub trees_on : (start own next : ℕ) (now then' : List Tree) (s : Sort) (x : Tree) → TreesSoFar d n ss ts start i own now → Some s ≡ slice_get ss i →
       x ≡ as_tree d n s (apart (form_of t) own).0 → next ≡ (apart (form_of t) own).1 → then' ≡ now ++ x ∷ [] → TreesSoFar d n ss ts start (i + 1) next then'
@@ -77,13 +67,6 @@ module _ (d : Declared) (n : Numbering) (ss : List Sort) (ts : List RawTerm) (i 
       ∙ ap (λ m. now ++ x ∷ as_trees d n (drop (i + 1) ss) (apart_all (all_forms (drop (i + 1) ts)) m).0) (sym k)
       ∙ sym (append_assoc now (x ∷ []) (as_trees d n (drop (i + 1) ss) (apart_all (all_forms (drop (i + 1) ts)) next).0))
       ∙ ap (λ (l : List Tree). l ++ as_trees d n (drop (i + 1) ss) (apart_all (all_forms (drop (i + 1) ts)) next).0) (sym p)
-
-  pub trees_past : (start own next : ℕ) (now : List Tree) → TreesSoFar d n ss ts start i own now → None ≡ slice_get ss i → TreesSoFar d n ss ts start (i + 1) next now
-  trees_past start own next now so g =
-      let p = sort_past ss i g in
-      so ∙ ap (λ (l : List Sort). now ++ as_trees d n l (apart_all (all_forms (drop i ts)) own).0) p.0
-      ∙ ap (λ (l : List Tree). now ++ l) (no_trees d n (apart_all (all_forms (drop i ts)) own).0 ∙ sym (no_trees d n (apart_all (all_forms (drop (i + 1) ts)) next).0))
-      ∙ ap (λ (l : List Sort). now ++ as_trees d n l (apart_all (all_forms (drop (i + 1) ts)) next).0) (sym (ap (λ m. drop m ss) (add-one i) ∙ p.1))
 
 pub trees_end : (d : Declared) (n : Numbering) (ss : List Sort) (ts : List RawTerm) (start i own : ℕ) (now : List Tree) → length ts ≤ i → TreesSoFar d n ss ts start i own now →
     now ≡ as_trees d n ss (apart_all (all_forms ts) start).0

@@ -1,12 +1,12 @@
 //! Terms at places of every sort.
 
-ghost use Rattle.std.specs.Prelude.{◌≡◌, ◌++◌, [], true, map, IfOk, OnOk, slice_get, pos};
+ghost use Rattle.std.specs.Prelude.{◌≡◌, ◌<◌, ◌++◌, true, map, length, IfOk, OnOk, slice_get, Some, pos};
 ghost use Rattle.cb_model.specs.declared.Sort.TheVariants as sort;
 ghost use Rattle.cb_model.specs.declared.Tree.TheVariants as tree;
 ghost use Rattle.cb_model.specs.Grammar.{Name};
 ghost use Rattle.cb_model.specs.Written.{is_name, is_written, are_written};
 ghost use Rattle.cb_model.specs.Forms.{form_of, forms_of};
-ghost use Rattle.cb_model.specs.Directives.{nothing, sorts_of};
+ghost use Rattle.cb_model.specs.Directives.{sorts_of};
 ghost use Rattle.cb_model.specs.Sorts.{apart, apart_all, as_tree, as_trees, as_arguments, sign_number};
 ghost use Rattle.cb_model.specs.Loading.{head_sign};
 ghost use Rattle.cb_trees.specs.Places.{sorts_given};
@@ -29,38 +29,27 @@ pub(crate) struct Places<'d> {
     count: usize,
 }
 
-/// The sort of a place of a name with so many arguments and no declared sorts.
-fn undeclared(place: usize, count: usize) -> Option<Sort>
-    ensures { result ≡ slice_get (sorts_of nothing ([], count)) place }
-{
-    if place < count {
-        Some(Sort::Term)
-    } else {
-        None
-    }
-}
-
 impl<'d> Places<'d> {
     /// The places of a name with this number of arguments.
     pub(crate) fn of<'s>(declared: &'d Declarations<'s>, name: &'s [u8], count: usize) -> Places<'d>
-        ensures { sorts_given result.declared result.count ≡ sorts_of declared.now (name.now, count) }
+        ensures sorts { sorts_given result.declared result.count ≡ sorts_of declared.now (name.now, count) }
+        ensures counted { length (sorts_given result.declared result.count) ≡ count }
     {
+        declared.counted();
         Places {
             declared: declared.sorts(name, count),
             count,
         }
     }
 
-    /// The sort of a place; `None` past the last.
-    fn sort(&self, place: usize) -> Option<Sort>
-        ensures { result ≡ slice_get (sorts_given self.now.declared self.now.count) place }
+    /// The sort of a place.
+    fn sort(&self, place: usize) -> Sort
+        requires { place < length (sorts_given self.now.declared self.now.count) }
+        ensures { slice_get (sorts_given self.now.declared self.now.count) place ≡ Some result }
     {
         match self.declared {
-            Some(sorts) => match sqlite_items::at(sorts, place) {
-                Some(sort) => Some(*sort),
-                None => None,
-            },
-            None => undeclared(place, self.count),
+            Some(sorts) => sorts[place],
+            None => Sort::Term,
         }
     }
 }
@@ -147,16 +136,14 @@ pub(crate) fn trees<'s>(
     args: &[RawTerm<'s>],
     own: &mut usize,
 ) -> Result<Items<Tree>, AllocError>
-    requires { are_written (forms_of (map form_of args.now)) ≡ true }
+    requires written { are_written (forms_of (map form_of args.now)) ≡ true }
+    requires counted { length (sorts_given places.now.declared places.now.count) ≡ length args.now }
     ensures trees { IfOk result (λ ts. ts ≡ as_trees numbers.now.declared.now (numbering_of numbers.now) (sorts_given places.now.declared places.now.count) (apart_all (forms_of (map form_of args.now)) own.old).0) }
     ensures own { OnOk result (own.new ≡ (apart_all (forms_of (map form_of args.now)) own.old).1) }
 {
     let mut all = Items::new(alloc);
     for (place, arg) in args.iter().enumerate() {
-        match places.sort(place) {
-            Some(sort) => all.push(tree(alloc, numbers, sort, arg, own)?)?,
-            None => skip(arg, own)?,
-        }
+        all.push(tree(alloc, numbers, places.sort(place), arg, own)?)?;
     }
     Ok(all)
 }

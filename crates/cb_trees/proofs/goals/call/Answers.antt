@@ -13,4 +13,4 @@ returns-then-is_circuit-clause-goal c =
 pub returns-clause-goal : goal.returns-clause-goal
 returns-clause-goal c = λ ms same.
     calls_name c.args.numbers.now.declared.now (numbering_of c.args.numbers.now) ms c.args.name.now c.args.args.now c.args.own.now c.if-is_true.ensures.same c.if-is_fail.ensures.same c.in_ok-number.number c.in_ok-trees.field-0
-    (sorts_given c.of-places.result.declared c.of-places.result.count) c.if-is_circuit.ensures.same c.in_ok-number.ensures c.of-places.ensures c.in_ok-trees.ensures.trees
+    (sorts_given c.of-places.result.declared c.of-places.result.count) c.if-is_circuit.ensures.same c.in_ok-number.ensures c.of-places.ensures.sorts c.in_ok-trees.ensures.trees

@@ -7,4 +7,4 @@ use Rattle.cb_trees.proofs.trees.arguments.Goals as goal
 pub returns-clause-trees : goal.returns-clause-trees
 returns-clause-trees c =
     arguments_is c.trees.result c.args.numbers.now.declared.now (numbering_of c.args.numbers.now) (form_of c.args.head.now) c.in-Some.name.now c.in-Some.args.now c.args.own.now
-    (sorts_given c.of-places.result.declared c.of-places.result.count) c.in-Some.ensures c.of-places.ensures c.trees.ensures.trees
+    (sorts_given c.of-places.result.declared c.of-places.result.count) c.in-Some.ensures c.of-places.ensures.sorts c.trees.ensures.trees
