@@ -1,3 +1,4 @@
 pub mod Reaches
 pub mod Rows
 pub mod Marking
+pub mod Ones

@@ -1,9 +1,10 @@
 -- The search for the least input at which a diagram is 1, where the inputs have levels in any order.
-use Rattle.std.specs.Prelude.{◌≡◌, ◌⊎◌, ◌↔◌, ℕ, ◌+◌, ◌<◌, ◌≤◌, Bool, true, false, List, length, get_or, Some}
+use Rattle.std.specs.Prelude.{◌≡◌, ◌⊎◌, ◌↔◌, ℕ, zero, suc, ◌+◌, ◌-◌, ◌<◌, ◌≤◌, nat_le, Bool, true, false, ◌&&◌, if◌then◌else◌, List, length, get_or, Some}
 use Rattle.cb_model.specs.Bits.{Bits}
 use Rattle.cb_dd.specs.declared.Triple.{Triple}
 use Rattle.cb_dd.specs.declared.Node.{Node}
-use Rattle.cb_dd.specs.Diagram.{function_of, parts_of}
+use Rattle.cb_dd.specs.Diagram.{IsNode, function_of, level_of, parts_of}
+use Rattle.cb_levels.specs.Inverse.{IsInverse}
 
 -- the assignment has these bits at the inputs below a number; `order` has the input of each level
 abbrev pub Begins : List ℕ → List Bool → ℕ → Bits → Type 0
@@ -32,8 +33,36 @@ IsAbove order bits next a = (k : ℕ) × ((k < length order) × (get_or order k 
 abbrev pub AreLeast : List Triple → List ℕ → List Bool → ℕ → ℕ → Type 0
 AreLeast ts order bits next n = (a : Bits) → function_of ts n a ≡ true → Begins order bits next a ⊎ IsAbove order bits next a
 
+-- how many of these inputs have 1 at the assignment, those alone whose level is at least `low`
+abbrev pub ones : List ℕ → Bits → ℕ → ℕ → ℕ → ℕ
+ones levels a low from zero = 0
+ones levels a low from (suc count) = (if nat_le low (get_or levels from 0) && a (get_or levels from 0) then 1 else 0) + ones levels a low (suc from) count
+
+-- at each assignment that begins with the bits, at which node n is 1, so many of the inputs from `next` to `upto` have 1
+abbrev pub HasOnes : List Triple → List ℕ → List Bool → ℕ → ℕ → ℕ → ℕ → Type 0
+HasOnes ts order bits next upto n least =
+    (levels : List ℕ) → IsInverse order levels → (a : Bits) → Begins order bits next a → function_of ts n a ≡ true → least ≤ ones levels a (level_of ts n) next (upto - next)
+
+-- the first bits of the least input are found, as far as a number
+pub record AreFound (ts : List Triple) (order : List ℕ) (bits : List Bool) (next n : ℕ) : Type 0 where
+  pub bits_so_far : AreBits order bits next
+  pub some : CanBegin ts order bits next n
+  pub least : AreLeast ts order bits next n
+
 -- the nodes of a diagram are marked: its root, and with each node its children
 pub record AreMarks (ts : List Triple) (root low : ℕ) (marks : List Bool) : Type 0 where
   pub long : length marks ≡ root + 1
   pub root_in : get_or marks root false ≡ true
   pub closed : (n level : ℕ) (lo hi : Node) → low < n → n ≤ root → get_or marks n false ≡ true → parts_of ts n ≡ Some (level, lo, hi) → (get_or marks lo.0 false ≡ true) × (get_or marks hi.0 false ≡ true)
+
+-- what a search goes over: the marked diagram of a node that isn't the constant 0, and the input of each level
+pub record IsSearch (ts : List Triple) (root : ℕ) (marks : List Bool) (order : List ℕ) : Type 0 where
+  pub node : IsNode ts root
+  pub some : 1 ≤ root
+  pub marked : AreMarks ts root 1 marks
+  pub inverse : (levels : List ℕ) × IsInverse order levels
+
+-- these inputs have 1 at each assignment that begins with the bits at which node n is 1
+abbrev pub AreOnes : List Triple → List ℕ → List Bool → ℕ → ℕ → ℕ → Type 0
+AreOnes ts order bits next upto n =
+    (a : Bits) → Begins order bits next a → function_of ts n a ≡ true → (k : ℕ) → k < length order → next ≤ get_or order k 0 → get_or order k 0 < upto → a k ≡ true

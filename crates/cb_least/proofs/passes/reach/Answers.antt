@@ -1,7 +1,7 @@
 use Rattle.std.proofs.Common.{◌≡◌, ◌+◌, ◌<◌, ◌≤◌, min, max, true, false, get_or, length, sym, ap, subst, ◌∙◌, arith, rules}
 use Rattle.cb_least.specs.Beginning.{IsReach}
 use Rattle.cb_least.proofs.Reaches.{later-step, found-step}
-use Rattle.cb_least.proofs.reach.Goals as goal
+use Rattle.cb_least.proofs.passes.reach.Goals as goal
 
 pub returns-then-input-prefix : goal.returns-then-input-prefix
 returns-then-input-prefix c =

@@ -1,6 +1,6 @@
 use Rattle.std.proofs.Common.{◌≡◌, ℕ, ◌<◌, true, false, get_or}
 use Rattle.cb_least.specs.Beginning.{IsReach}
-use Rattle.cb_least.proofs.reach_of_root.Given as goal
+use Rattle.cb_least.proofs.passes.reach_of_root.Given as goal
 
 abbrev pub invariant-loop-at : goal.invariant-loop-at
 invariant-loop-at l = (n : ℕ) → n < l.at → get_or l.marks n false ≡ true → IsReach l.ops.triples l.prefix.order.now l.prefix.bits.now l.prefix.next n (get_or l.reaches n 0)

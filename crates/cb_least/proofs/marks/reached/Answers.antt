@@ -1,7 +1,7 @@
 use Rattle.std.proofs.Common.{◌≡◌, ◌-◌, length, sym, ap, subst, ◌∙◌, arith}
 use Rattle.cb_least.specs.Beginning.{AreMarks}
 use Rattle.cb_least.proofs.Marking.{written, more-marks}
-use Rattle.cb_least.proofs.reached.Goals as goal
+use Rattle.cb_least.proofs.marks.reached.Goals as goal
 
 pub loop-at-preserved : goal.loop-at-preserved
 loop-at-preserved c =

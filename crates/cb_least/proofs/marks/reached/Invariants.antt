@@ -1,6 +1,6 @@
 use Rattle.std.proofs.Common.{◌≤◌}
 use Rattle.cb_least.specs.Beginning.{AreMarks}
-use Rattle.cb_least.proofs.reached.Given as goal
+use Rattle.cb_least.proofs.marks.reached.Given as goal
 
 abbrev pub invariant-loop-at : goal.invariant-loop-at
 invariant-loop-at l = record {

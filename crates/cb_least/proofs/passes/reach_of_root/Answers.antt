@@ -3,8 +3,8 @@ use Rattle.std.proofs.lemmas.Bool.{cases_eq, true≢false}
 use Rattle.cb_least.specs.Beginning.{IsReach}
 use Rattle.cb_least.proofs.Marking.{child-low}
 use Rattle.cb_least.proofs.Reaches.{start-right, next-right}
-use Rattle.cb_least.proofs.reach_of_root.Goals as goal
-use Rattle.cb_least.proofs.reach_of_root.Goals.{then-marks-at, else-marks-at}
+use Rattle.cb_least.proofs.passes.reach_of_root.Goals as goal
+use Rattle.cb_least.proofs.passes.reach_of_root.Goals.{then-marks-at, else-marks-at}
 
 pub loop-at-init : goal.loop-at-init
 loop-at-init c n l is = start-right c.args.ops.now.triples c.args.prefix.now.order.now c.args.prefix.now.bits.now c.args.prefix.now.next c.args.reaches.now (omega (arith, c.requires.room, c.requires.some)) n l
