@@ -1,7 +1,7 @@
 //! The order of levels in a comparison of circuits, found from the circuit.
 #![tactic(auto)]
 
-ghost use Rattle.std.specs.Prelude.{◌≡◌, ℕ, ◌+◌, ◌<◌, ◌≤◌, ◌^◌, [], ◌++◌, false, length, replicate, slice_set, IfOk, OnOk};
+ghost use Rattle.std.specs.Prelude.{◌≡◌, ℕ, ◌+◌, ◌<◌, ◌≤◌, [], ◌++◌, false, length, replicate, slice_set, IfOk, OnOk};
 ghost use Rattle.std.specs.List.Sorted.{IsPermutation};
 ghost use Rattle.cb_model.specs.Bits.{numbers};
 ghost use Rattle.cb_levels.specs.Inverse.{IsInverse};
@@ -113,8 +113,7 @@ pub fn fan_in_order(alloc: Global, circuit: &Circuit) -> Result<Vec<u32>, AllocE
 
 /// The level of each input, where these are the inputs in the order of their levels.
 pub fn levels(alloc: Global, order: &[u32]) -> Result<Vec<u32>, AllocError>
-    requires once { IsPermutation (numbers (length order.now)) order.now }
-    requires small { length order.now ≤ 2 ^ 32 }
+    requires { (count : ℕ) × IsPermutation (numbers count) order.now }
     ensures { IfOk result (λ v. IsInverse order.now v.items) }
 {
     let mut levels = vec![in alloc; 0; order.len()]?;
