@@ -7,17 +7,22 @@ ghost use Rattle.cb_model.specs.Bits.{numbers};
 ghost use Rattle.cb_levels.specs.Inverse.{IsInverse};
 ghost use Rattle.cb_levels.specs.Meeting.{IsMeeting, to_look, unmarked};
 
+use crate::depths::{deepest, depths};
 use cb_model::Circuit;
 use std::alloc::{AllocError, Global};
 
+mod depths;
+
 /// What a walk of the fan-in has met: the inputs in the order in which they were met first, a mark for each input that
-/// is met, one for each gate that is entered, and the nets that are still to be looked at, the next one last.
+/// is met, one for each gate that is entered, and the nets that are still to be looked at, the next one last; and how
+/// many gates lie one behind another up to the output of each gate.
 #[derive(Drop)]
 struct Meeting {
     order: Vec<u32>,
     met: Vec<bool>,
     entered: Vec<bool>,
     pending: Vec<u32>,
+    depths: Vec<u32>,
 }
 
 impl Meeting {
@@ -29,6 +34,7 @@ impl Meeting {
             met: vec![in alloc; false; circuit.inputs as usize]?,
             entered: vec![in alloc; false; circuit.gates.len()]?,
             pending: Vec::new(alloc),
+            depths: depths(alloc, circuit)?,
         })
     }
 
@@ -41,6 +47,24 @@ impl Meeting {
     {
         let start = self.pending.len();
         self.pending.extend_from_slice(nets)?;
+        self.pending[start..].reverse();
+        Ok(())
+    }
+
+    /// The same, but the deepest net last.
+    fn look_below(&mut self, inputs: u32, nets: &[u32]) -> Result<(), AllocError>
+        ensures order { self.new.order.items ≡ self.old.order.items }
+        ensures met { self.new.met.items ≡ self.old.met.items }
+        ensures entered { self.new.entered.items ≡ self.old.entered.items }
+        ensures pending { OnOk result (length self.new.pending.items ≡ length self.old.pending.items + length nets.now) }
+    {
+        let start = self.pending.len();
+        let (before, rest) = nets.split_at(deepest(&self.depths, inputs, nets));
+        self.pending.extend_from_slice(before)?;
+        if let Some((deepest, after)) = rest.split_first() {
+            self.pending.extend_from_slice(after)?;
+            self.pending.push(*deepest)?;
+        }
         self.pending[start..].reverse();
         Ok(())
     }
@@ -77,7 +101,7 @@ impl Meeting {
             return Ok(());
         }
         self.entered[at] = true;
-        self.look_at(gate.ins.as_slice())
+        self.look_below(circuit.inputs, gate.ins.as_slice())
     }
 
     /// All inputs: those that were met, and behind them the others in port order.
@@ -96,10 +120,12 @@ impl Meeting {
 }
 
 /// The inputs of a circuit in the order in which a walk of the fan-in meets them: depth first from the outputs in
-/// their order, at each gate into its pins in the order of the text, each net once; inputs that no output depends on
-/// come last, in port order. The level of an input in a comparison is its place in this order: so inputs that a gate
-/// joins lie close together, whichever way the ports are listed, and diagrams stay small (Fujita, Fujisawa and Kawato
-/// 1988; Malik, Wang, Brayton and Sangiovanni-Vincentelli 1988). The time is that of the circuit's pins.
+/// their order, at each gate into its pins in the order of the text but the deepest last, each net once; inputs that no
+/// output depends on come last, in port order. The level of an input in a comparison is its place in this order: so
+/// inputs that a gate joins lie close together, whichever way the ports are listed, and diagrams stay small (Fujita,
+/// Fujisawa and Kawato 1988; Malik, Wang, Brayton and Sangiovanni-Vincentelli 1988); and the inputs that a chain of gates
+/// takes later lie above those before, so that each gate adds to the diagram of the chain without going through it. The
+/// time is that of the circuit's pins.
 pub fn fan_in_order(alloc: Global, circuit: &Circuit) -> Result<Vec<u32>, AllocError>
     ensures { IfOk result (λ v. IsPermutation (numbers circuit.now.inputs) v.items) }
 {

@@ -28,7 +28,8 @@ length-numbers n = length-numbers_from 0 n
 pub length-first_bits : (n : ℕ) (a : Bits) → length (first_bits n a) ≡ n
 length-first_bits n a = length-map (numbers n) a ∙ length-numbers n
 
-map-agree : (ks : List ℕ) (a b : Bits) → Agree ks a b → map a ks ≡ map b ks
+-- the bits of levels at which assignments agree
+pub map-agree : (ks : List ℕ) (a b : Bits) → Agree ks a b → map a ks ≡ map b ks
 map-agree [] a b h = refl
 map-agree (k ∷ ks) a b h = λ j. h.0 j ∷ map-agree ks a b h.1 j
 

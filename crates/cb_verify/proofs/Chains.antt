@@ -22,7 +22,8 @@ xor_assoc true false true = refl
 xor_assoc true false false = refl
 xor_assoc false y z = refl
 
-operator_assoc : (o : Operator) (x y z : Bool) → operator_value o x (operator_value o y z) ≡ operator_value o (operator_value o x y) z
+-- the operators associate
+pub operator_assoc : (o : Operator) (x y z : Bool) → operator_value o x (operator_value o y z) ≡ operator_value o (operator_value o x y) z
 operator_assoc operator.And true y z = refl
 operator_assoc operator.And false y z = refl
 operator_assoc operator.Or true y z = refl

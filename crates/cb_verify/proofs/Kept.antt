@@ -1,6 +1,6 @@
 -- What stays of nodes when a store grows, and on which levels they depend.
-use Rattle.std.proofs.Common.{◌≡◌, ℕ, ◌+◌, ◌^◌, ◌≤◌, Bool, List, [], ◌∷◌, ◌++◌, length, refl, sym, ◌∙◌, ap, arith, length-append}
-use Rattle.std.proofs.lemmas.List.{map_push}
+use Rattle.std.proofs.Common.{◌≡◌, ℕ, ◌+◌, ◌^◌, ◌<◌, ◌≤◌, Bool, List, [], ◌∷◌, ◌++◌, map, take, get_or, length, refl, sym, ◌∙◌, ap, arith, length-append}
+use Rattle.std.proofs.lemmas.List.{map_push, take_more}
 use Rattle.std.proofs.Math.Nat.{mul-le-mul_right}
 use Rattle.cb_model.specs.Bits.{Bits, first_bits}
 use Rattle.cb_dd.specs.declared.Node.{Node}
@@ -73,6 +73,13 @@ pub literals-bits : (s t : Store) → Grows s t → (ns : List Node) (n : Node) 
     → ((a : Bits) → function_of t.triples n.0 a ≡ a k) → (a : Bits) → node_bits t.triples (ns ++ n ∷ []) a ≡ first_bits (k + 1) a
 literals-bits s t g ns n k are bits made a =
     map_push (λ m. function_of t.triples m.0 a) ns n ∙ (λ j. (node_bits-kept s t g ns are a ∙ bits a) j ++ made a j ∷ []) ∙ sym (first_bits-push k a)
+
+-- the literal of the next of these levels
+pub literal-next : (s t : Store) → Grows s t → (ns : List Node) (n : Node) (ls : List ℕ) (i : ℕ) → i < length ls → AreNodes s.triples ns → ((a : Bits) → node_bits s.triples ns a ≡ map a (take i ls))
+    → ((a : Bits) → function_of t.triples n.0 a ≡ a (get_or ls i 0)) → (a : Bits) → node_bits t.triples (ns ++ n ∷ []) a ≡ map a (take (i + 1) ls)
+literal-next s t g ns n ls i lt are bits made a =
+    map_push (λ m. function_of t.triples m.0 a) ns n ∙ (λ j. (node_bits-kept s t g ns are a ∙ bits a) j ++ made a j ∷ [])
+    ∙ sym (map_push a (take i ls) (get_or ls i 0)) ∙ ap (map a) (sym (take_more ls i 0 lt))
 
 -- the room of one operation
 pub one-room : (s t : Store) (f : Node) → Room (f.0 ∷ []) 1 s t → Adds s t 1 (f ∷ [])

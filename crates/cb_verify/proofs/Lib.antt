@@ -7,5 +7,7 @@ pub mod Unequal
 pub mod Verdicts
 pub mod Evaluates
 pub mod Bridge
+pub mod Halves
+pub mod Spread
 pub mod Rows
 pub mod Deciding

@@ -98,18 +98,10 @@ not-room s t u inputs x e y n is same made one two =
     (then-room s t u inputs (n ∷ []) (expr_size y) 1
     (operands-depend s t inputs (n ∷ []) (y ∷ []) (λ a j. made a j ∷ [])) one two)
 
--- a chain of expressions
-pub operands-room : (s t u : Store) (inputs ns q : List Node) (xs ys : List Expr) (size : ℕ) → ys ≡ xs → q ≡ ns
-    → ((a : Bits) → node_bits t.triples ns a ≡ map (expr_value (bits_of []) (bits_of (node_bits s.triples inputs a))) ys)
-    → Adds s t (sum (map expr_size ys)) inputs → Adds t u (length q - 1) q → size ≡ sum (map expr_size xs) + (length (map expr_size xs) - 1) → Adds s u size inputs
-operands-room s t u inputs ns q xs ys size same given is one two e =
-    let f : Bits = λ _. false in
-    let count : length ns ≡ length (map expr_size xs) =
-    sym (length-map ns (λ m. function_of t.triples m.0 f)) ∙ ap length (is f) ∙ length-map ys (expr_value (bits_of []) (bits_of (node_bits s.triples inputs f))) ∙ ap length same ∙ sym (length-map xs expr_size) in
-    let more : Adds t u (length ns - 1) ns = let P : List Node → Type 0 = λ m. Adds t u (length m - 1) m in subst P given two in
-    same-room s u (sum (map expr_size ys) + (length ns - 1)) size inputs
-    ((λ j. sum (map expr_size (same j)) + (count j - 1)) ∙ sym e)
-    (then-room s t u inputs ns (sum (map expr_size ys)) (length ns - 1) (operands-depend s t inputs ns ys is) one more)
+-- the operations of a chain of expressions
+pub chain-size : (s t : Store) (inputs : List Node) (xs ys : List Expr) (size : ℕ) → ys ≡ xs → size ≡ sum (map expr_size xs) + (length (map expr_size xs) - 1)
+    → Adds s t (sum (map expr_size ys) + (length ys - 1)) inputs → Adds s t size inputs
+chain-size s t inputs xs ys size same e h = same-room s t (sum (map expr_size ys) + (length ys - 1)) size inputs (omega (arith, e, ap (λ l. sum (map expr_size l)) same, ap length same, length-map xs expr_size)) h
 
 -- ---- one expression more
 
@@ -153,13 +145,13 @@ module _ (s t u : Store) (st : Grows s t) (tu : Grows t u) (inputs : List Node) 
       omega (arith, more_size, sum-map expr_size (take i es), sum-map expr_size es, sum_by_more_le expr_size es i e lt, ap expr_size is) in
       Adds-within s u (sum (map expr_size (take (i + 1) es))) (sum (map expr_size es)) inputs within (operand-room one two)
 
--- ---- a measure: the operators and leaves, with one more for each operator
+-- ---- a measure: the operators and leaves, with one more for each operator, and one for each operand
 
 weight_step : Expr-F ℕ → ℕ
 weight_step (Expr-F.Not n) = n + 1
-weight_step (Expr-F.And ns) = sum ns + 1
-weight_step (Expr-F.Xor ns) = sum ns + 1
-weight_step (Expr-F.Or ns) = sum ns + 1
+weight_step (Expr-F.And ns) = sum ns + length ns + 1
+weight_step (Expr-F.Xor ns) = sum ns + length ns + 1
+weight_step (Expr-F.Or ns) = sum ns + length ns + 1
 weight_step _ = 1
 
 pub weight : Expr → ℕ
@@ -171,23 +163,23 @@ weight-not x e y is same =
     let f : weight e ≡ weight x + 1 = ap weight is ∙ ap weight (sym (expr.rolls-Not x)) ∙ fold-roll-Expr ℕ weight_step (Expr-F.Not x) in
     omega (arith, f, ap weight same)
 
-falls_to : (xs ys : List Expr) (n : ℕ) → ys ≡ xs → n ≡ sum (map weight xs) + 1 → 2 * sum (map weight ys) + 1 < 2 * n
-falls_to xs ys n same e = omega (arith, e, ap (λ l. sum (map weight l)) same)
+falls_to : (xs ys : List Expr) (n : ℕ) → ys ≡ xs → n ≡ sum (map weight xs) + length (map weight xs) + 1 → 2 * sum (map weight ys) + length ys < 2 * n
+falls_to xs ys n same e = omega (arith, e, ap (λ l. sum (map weight l)) same, ap length same, length-map xs weight)
 
-pub weight-and : (xs ys : List Expr) (e : Expr) → e ≡ expr.And xs → ys ≡ xs → 2 * sum (map weight ys) + 1 < 2 * weight e
+pub weight-and : (xs ys : List Expr) (e : Expr) → e ≡ expr.And xs → ys ≡ xs → 2 * sum (map weight ys) + length ys < 2 * weight e
 unfolding weight weight_step
 weight-and xs ys e is same = falls_to xs ys (weight e) same (ap weight is ∙ ap weight (sym (expr.rolls-And xs)) ∙ fold-roll-Expr ℕ weight_step (Expr-F.And xs))
 
-pub weight-xor : (xs ys : List Expr) (e : Expr) → e ≡ expr.Xor xs → ys ≡ xs → 2 * sum (map weight ys) + 1 < 2 * weight e
+pub weight-xor : (xs ys : List Expr) (e : Expr) → e ≡ expr.Xor xs → ys ≡ xs → 2 * sum (map weight ys) + length ys < 2 * weight e
 unfolding weight weight_step
 weight-xor xs ys e is same = falls_to xs ys (weight e) same (ap weight is ∙ ap weight (sym (expr.rolls-Xor xs)) ∙ fold-roll-Expr ℕ weight_step (Expr-F.Xor xs))
 
-pub weight-or : (xs ys : List Expr) (e : Expr) → e ≡ expr.Or xs → ys ≡ xs → 2 * sum (map weight ys) + 1 < 2 * weight e
+pub weight-or : (xs ys : List Expr) (e : Expr) → e ≡ expr.Or xs → ys ≡ xs → 2 * sum (map weight ys) + length ys < 2 * weight e
 unfolding weight weight_step
 weight-or xs ys e is same = falls_to xs ys (weight e) same (ap weight is ∙ ap weight (sym (expr.rolls-Or xs)) ∙ fold-roll-Expr ℕ weight_step (Expr-F.Or xs))
 
 -- one of the expressions weighs at most as much as all
-pub weight-at : (es : List Expr) (i : ℕ) (e : Expr) → i < length es → e ≡ get_or es i e → 2 * weight e < 2 * sum (map weight es) + 1
+pub weight-at : (es : List Expr) (i : ℕ) (e : Expr) → i < length es → e ≡ get_or es i e → 2 * weight e < 2 * sum (map weight es) + length es
 weight-at es i e lt is = omega (arith, sum-map weight es, sum_by_more_le weight es i e lt, ap weight is)
 
 -- ---- scopes

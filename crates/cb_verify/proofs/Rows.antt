@@ -1,19 +1,20 @@
 -- Rows of bits by weight, and the least row at which lists of nodes differ.
-use Rattle.std.proofs.Common.{◌≡◌, ◌≢◌, ℕ, suc, ◌+◌, ◌-◌, ◌*◌, ◌^◌, ◌<◌, ◌≤◌, nat_lt, Bool, true, false, not, ◌||◌, if◌then◌else◌, ◌⊎◌, inl, inr, List, [], ◌∷◌, ◌++◌, map, length, get_or, take, drop, Option, Some, None, IfSome, Vec, refl, sym, ◌∙◌, ap, subst, arith}
+use Rattle.std.proofs.Common.{◌≡◌, ◌≢◌, ℕ, suc, ◌+◌, ◌-◌, ◌*◌, ◌^◌, ◌<◌, ◌≤◌, nat_lt, Bool, true, false, not, ◌||◌, if◌then◌else◌, ◌⊎◌, inl, inr, List, [], ◌∷◌, ◌++◌, map, length, get_or, take, drop, Option, Some, None, IsNone, ◌↔◌, IfSome, Vec, refl, sym, ◌∙◌, ap, subst, arith}
 use Rattle.std.proofs.lemmas.List.{drop_more, length-drop, length-map, map_push, take_more, take_all, length-take-le}
-use Rattle.std.proofs.lemmas.Bool.{cases_Bool, cases_lt, lt-ltb, le-ltb, false≢true}
+use Rattle.std.proofs.lemmas.Bool.{cases_lt, lt-ltb, le-ltb, false≢true}
 use Rattle.std.proofs.Math.Nat.{mul-le-mul_right, pow-suc}
 use mathlib.Core.Bool.{beq}
-use Rattle.cb_model.specs.Bits.{Bits, weight, xor, numbers, bits_of}
+use Rattle.cb_model.specs.Bits.{Bits, weight, xor}
 use Rattle.cb_dd.specs.declared.Node.{Node}
 use Rattle.cb_dd.specs.declared.Triple.{Triple}
 use Rattle.cb_dd.specs.Diagram.{Store, IsNode, function_of}
-use Rattle.cb_ops.specs.Ops.{Grows, DependsOn, Room}
+use Rattle.cb_dd.proofs.Diagrams.{function_of-zero}
+use Rattle.cb_ops.specs.Ops.{Grows, DependsOn, IsLeastTrue, Room}
+use Rattle.cb_levels.specs.Inverse.{IsInverse}
 use Rattle.cb_verify.specs.declared.Verdict.TheVariants as verdict
 use Rattle.cb_verify.specs.Nodes.{AreNodes, node_bits, DependOn, unequal, IsFirst}
 use Rattle.cb_verify.specs.Least.{row_of, lesser_of, LeastOf}
-use Rattle.cb_verify.specs.Verdict.{IsLeast}
-use Rattle.cb_verify.proofs.Assignments.{first_bits-bits_of, length-numbers}
+use Rattle.cb_verify.specs.Verdict.{IsLeastOver}
 use Rattle.cb_verify.proofs.Kept.{node-kept, function-kept, depends-kept, depends-two, node_bits-kept, two-room}
 use Rattle.cb_verify.proofs.Chains.{Each-at}
 
@@ -185,43 +186,29 @@ all-places ls ts got wanted i o l same h =
 
 -- ---- the verdict
 
-module _ (s t : Store) (st : Grows s t) (got wanted : List Node) (gots : AreNodes s.triples got) (wants : AreNodes s.triples wanted) (n : ℕ) (ls : List ℕ) (all : ls ≡ numbers n) where
+module _ (s t : Store) (st : Grows s t) (got wanted : List Node) (gots : AreNodes s.triples got) (wants : AreNodes s.triples wanted) (ls : List ℕ) where
   later : (a : Bits) → unequal (node_bits s.triples got a) (node_bits s.triples wanted a) ≡ unequal (node_bits t.triples got a) (node_bits t.triples wanted a)
   later a = λ j. unequal (sym (node_bits-kept s t st got gots a) j) (sym (node_bits-kept s t st wanted wants a) j)
 
   -- nothing differs
-  pub verified : LeastOf ls (λ a. unequal (node_bits s.triples got a) (node_bits s.triples wanted a)) None → IsLeast t.triples n got wanted verdict.Verified
+  pub verified : LeastOf ls (λ a. unequal (node_bits s.triples got a) (node_bits s.triples wanted a)) None → IsLeastOver t.triples ls got wanted verdict.Verified
   verified h = λ a. sym (later a) ∙ h a
 
   module _ (row : List Bool) (least : LeastOf ls (λ a. unequal (node_bits s.triples got a) (node_bits s.triples wanted a)) (Some row)) where
-    pub row-long : length row ≡ n
-    row-long = least.0 ∙ ap length all ∙ length-numbers n
+    pub row-long : length row ≡ length ls
+    row-long = least.0
 
-    -- the row as it is read
-    pub row-differs : (given : List Bool) → given ≡ row → unequal (node_bits t.triples got (bits_of given)) (node_bits t.triples wanted (bits_of given)) ≡ true
-    row-differs given is =
-        let e : map (bits_of row) ls ≡ row = ap (map (bits_of row)) all ∙ first_bits-bits_of row n row-long in
-        subst (λ r. unequal (node_bits t.triples got (bits_of r)) (node_bits t.triples wanted (bits_of r)) ≡ true) (sym is) (sym (later (bits_of row)) ∙ least.1 (bits_of row) e)
+    -- at an assignment that has the row
+    pub row-differs : (a : Bits) → map a ls ≡ row → unequal (node_bits t.triples got a) (node_bits t.triples wanted a) ≡ true
+    row-differs a is = sym (later a) ∙ least.1 a is
 
-    less-agree : (other : List Bool) → length other ≡ n → weight other < weight row → unequal (node_bits t.triples got (bits_of other)) (node_bits t.triples wanted (bits_of other)) ≡ false
-    less-agree other width lt = elim (cases_Bool (unequal (node_bits t.triples got (bits_of other)) (node_bits t.triples wanted (bits_of other)))) [
-      | inl differs ↦
-          let w : weight row ≤ weight (map (bits_of other) ls) = least.2 (bits_of other) (later (bits_of other) ∙ differs) in
-          let e : map (bits_of other) ls ≡ other = ap (map (bits_of other)) all ∙ first_bits-bits_of other n width in
-          absurd (let f = ap weight e in omega (arith, w, f, lt))
-      | inr agree ↦ agree
-    ]
-
-    -- the verdict, with the row as it was read back and handed on
-    pub least-is : (seen given : List Bool) → seen ≡ row → given ≡ row → (at output : ℕ) (x y : Bool) → output ≡ at + 1
-        → IsFirst (node_bits t.triples got (bits_of seen)) (node_bits t.triples wanted (bits_of seen)) at x y → IsLeast t.triples n got wanted (verdict.Differs given output x y)
-    least-is seen given is too at output x y number first =
-        let P : ℕ → Type 0 = λ k. IsFirst (node_bits t.triples got (bits_of given)) (node_bits t.triples wanted (bits_of given)) k x y in
-        let Q : List Bool → Type 0 = λ r. IsFirst (node_bits t.triples got (bits_of r)) (node_bits t.triples wanted (bits_of r)) at x y in
-        let here : Q given = subst Q (is ∙ sym too) first in
+    -- the verdict, with the row as it was handed on
+    pub least-is : (given : List Bool) → given ≡ row → (b : Bits) → map b ls ≡ row → (at output : ℕ) (x y : Bool) → output ≡ at + 1
+        → IsFirst (node_bits t.triples got b) (node_bits t.triples wanted b) at x y → IsLeastOver t.triples ls got wanted (verdict.Differs given output x y)
+    least-is given too b is at output x y number first =
+        let P : ℕ → Type 0 = λ k. IsFirst (node_bits t.triples got b) (node_bits t.triples wanted b) k x y in
         let e : at ≡ output - 1 = omega (arith, number) in
-        let R : List Bool → Type 0 = λ r. (other : List Bool) → length other ≡ n → weight other < weight r → unequal (node_bits t.triples got (bits_of other)) (node_bits t.triples wanted (bits_of other)) ≡ false in
-        (omega (arith, number), ap length too ∙ row-long, subst P e here, subst R (sym too) less-agree)
+        (omega (arith, number), (b, (is ∙ sym too, subst P e first)), λ a d. subst (λ r. weight r ≤ weight (map a ls)) (sym too) (least.2 a (later a ∙ d)))
 
 -- bits that are different
 pub differ_bits : (x y : Bool) → not (beq x y) ≡ true → x ≢ y
@@ -230,6 +217,8 @@ differ_bits true false h = λ e. false≢true (sym e)
 differ_bits false true h = λ e. false≢true e
 differ_bits false false h = λ e. false≢true h
 
--- over as many levels as there are inputs
-pub at-numbers : (new old m n : ℕ) (ls : List ℕ) → ls ≡ numbers n → new ≤ old + m * (2 * 2 ^ length ls) → new ≤ old + m * (2 * 2 ^ n)
-at-numbers new old m n ls all h = subst (λ k. new ≤ old + m * (2 * 2 ^ k)) (ap length all ∙ length-numbers n) h
+-- the least row as it is found
+pub least-found : {A : Type 0} (order ls : List ℕ) (ts : List Triple) (n : ℕ) (o : Option (Vec Bool A)) → (IsNone o ↔ (n ≡ 0))
+    → IfSome o (λ v. (levels : List ℕ) → IsInverse order levels → DependsOn ts n levels → IsLeastTrue ts n levels v.items) → IsInverse order ls → DependsOn ts n ls → LeastOf ls (function_of ts n) (row_of o)
+least-found order ls ts n None none some inv d = λ a. ap (λ m. function_of ts m a) (none.0 refl) ∙ function_of-zero ts a
+least-found order ls ts n (Some v) none some inv d = let l = some ls inv d in (l.as_many, l.makes_true, l.least)

@@ -3,3 +3,4 @@ pub mod Verdict
 pub mod Order
 pub mod Least
 pub mod Wanted
+pub mod Places

@@ -1,5 +1,5 @@
 -- What the verdict of a comparison says.
-use Rattle.std.specs.Prelude.{◌≡◌, ℕ, ◌<◌, ◌≤◌, ◌-◌, Bool, false, List, length}
+use Rattle.std.specs.Prelude.{◌≡◌, ℕ, ◌<◌, ◌≤◌, ◌-◌, Bool, true, false, List, map, length}
 use Rattle.cb_model.specs.declared.Circuit.{Circuit}
 use Rattle.cb_model.specs.Bits.{Bits, bits_of, weight}
 use Rattle.cb_model.specs.Circuits.{Agrees, LeastDifference}
@@ -21,3 +21,10 @@ IsLeast ts n gots wants verdict.Verified = (a : Bits) → unequal (node_bits ts 
 IsLeast ts n gots wants (verdict.Differs input output got wanted) =
     (1 ≤ output) × (length input ≡ n) × IsFirst (node_bits ts gots (bits_of input)) (node_bits ts wants (bits_of input)) (output - 1) got wanted ×
     ((other : List Bool) → length other ≡ n → weight other < weight input → unequal (node_bits ts gots (bits_of other)) (node_bits ts wants (bits_of other)) ≡ false)
+
+-- the same where the inputs have these levels
+abbrev pub IsLeastOver : List Triple → List ℕ → List Node → List Node → Verdict → Type 0
+IsLeastOver ts ls gots wants verdict.Verified = (a : Bits) → unequal (node_bits ts gots a) (node_bits ts wants a) ≡ false
+IsLeastOver ts ls gots wants (verdict.Differs input output got wanted) =
+    (1 ≤ output) × ((a : Bits) × ((map a ls ≡ input) × IsFirst (node_bits ts gots a) (node_bits ts wants a) (output - 1) got wanted)) ×
+    ((a : Bits) → unequal (node_bits ts gots a) (node_bits ts wants a) ≡ true → weight input ≤ weight (map a ls))

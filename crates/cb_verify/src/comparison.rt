@@ -9,9 +9,10 @@ ghost use Rattle.cb_verify.specs.Verdict.{IsRight};
 ghost use Rattle.cb_verify.specs.Wanted.{Wants, FitsInputs, outputs_of, size_of};
 
 use crate::Verdict;
-use crate::circuits::literals;
+use crate::circuits::literals_at;
 use crate::expressions::expressions;
 use crate::least::verdict;
+use crate::places::Places;
 use crate::unfolding::unfold_circuit;
 use cb_dd::{Node, Stop};
 use cb_model::{Circuit, Expr};
@@ -63,17 +64,14 @@ fn decide(
     ensures room { length ops.new.triples ≤ length ops.old.triples + circuit.now.inputs + (circuit_pins circuit.now + size_of wanted.entry + length circuit.now.outputs) * (2 * 2 ^ circuit.now.inputs) }
     ensures full { result ≡ Err Stop.Nodes → length ops.new.triples ≡ ops.new.budget }
 {
-    let inputs = literals(alloc, ops, circuit.inputs)?;
+    let Ok(places) = Places::of(alloc, circuit) else {
+        return Err(Stop::Memory);
+    };
+    let inputs = literals_at(alloc, ops, places.levels.as_slice())?;
     let nodes = inputs.as_slice();
     let got = unfold_circuit(alloc, ops, circuit, nodes)?;
     let values = wanted_nodes(alloc, ops, wanted, nodes)?;
-    let verdict = verdict(
-        alloc,
-        ops,
-        circuit.inputs,
-        got.as_slice(),
-        values.as_slice(),
-    )?;
+    let verdict = verdict(alloc, ops, &places, got.as_slice(), values.as_slice())?;
     Ok(verdict)
 }
 

@@ -1,14 +1,15 @@
 ghost use Rattle.std.specs.Prelude.{◌≡◌, ◌+◌, ◌*◌, ◌^◌, ◌≤◌, nat_lt, Err, IfOk, IfSome, length};
-ghost use Rattle.std.specs.List.Sorted.{IsStrictlyIncreasing};
-ghost use Rattle.cb_model.specs.Bits.{weight, numbers};
+ghost use Rattle.cb_model.specs.Bits.{weight};
 ghost use Rattle.cb_dd.specs.Diagram.{IsNode, function_of};
 ghost use Rattle.cb_ops.specs.Ops.{Grows, DependsOn};
 ghost use Rattle.cb_verify.specs.Nodes.{AreNodes, DependOn, node_bits, unequal};
 ghost use Rattle.cb_verify.specs.Least.{LeastOf, row_of, lesser_of};
-ghost use Rattle.cb_verify.specs.Verdict.{IsLeast};
+ghost use Rattle.cb_verify.specs.Verdict.{IsLeastOver};
+ghost use Rattle.cb_levels.specs.Inverse.{IsInverse};
 
 use crate::Verdict;
-use crate::differences::{first_difference, levels};
+use crate::differences::first_difference;
+use crate::places::Places;
 use cb_dd::{Node, Stop};
 use cb_ops::Ops;
 use sqlite_items::Items;
@@ -51,43 +52,39 @@ fn least_row(
     alloc: Global,
     ops: &Ops,
     node: Node,
-    levels: &[u32],
+    places: &Places,
 ) -> Result<Option<Vec<bool>>, AllocError>
     requires node { IsNode ops.now.triples node.0 }
-    requires rise { IsStrictlyIncreasing levels.now }
-    requires support { DependsOn ops.now.triples node.0 levels.now }
-    ensures { IfOk result (λ o. LeastOf levels.now (function_of ops.now.triples node.0) (row_of o)) }
+    requires places { IsInverse places.now.order.items places.now.levels.items }
+    requires support { DependsOn ops.now.triples node.0 places.now.levels.items }
+    ensures { IfOk result (λ o. LeastOf places.now.levels.items (function_of ops.now.triples node.0) (row_of o)) }
 {
-    if node == Node::ZERO {
-        return Ok(None);
-    }
-    let mut row = vec![in alloc; false; levels.len()]?;
-    let _found = ops.least_true(node, levels, &mut row);
-    Ok(Some(row))
+    let row = cb_least::least_input(alloc, ops, node, places.order.as_slice())?;
+    Ok(row)
 }
 
 /// The least row at which the nodes of the two lists differ in some place, if there is one. Each place is looked at
 /// alone, so that no node is made for all differences together.
-fn least_input(
+fn least_difference(
     alloc: Global,
     ops: &mut Ops,
-    levels: &[u32],
+    places: &Places,
     got: &[Node],
     wanted: &[Node],
 ) -> Result<Option<Vec<bool>>, Stop>
-    requires got { AreNodes ops.old.triples got.now × DependOn ops.old.triples got.now levels.now }
-    requires wanted { AreNodes ops.old.triples wanted.now × DependOn ops.old.triples wanted.now levels.now }
+    requires places { IsInverse places.now.order.items places.now.levels.items }
+    requires got { AreNodes ops.old.triples got.now × DependOn ops.old.triples got.now places.now.levels.items }
+    requires wanted { AreNodes ops.old.triples wanted.now × DependOn ops.old.triples wanted.now places.now.levels.items }
     requires as_many { length wanted.now ≡ length got.now }
-    requires rise { IsStrictlyIncreasing levels.now }
-    ensures least { IfOk result (λ o. LeastOf levels.now (λ a. unequal (node_bits ops.old.triples got.now a) (node_bits ops.old.triples wanted.now a)) (row_of o)) }
+    ensures least { IfOk result (λ o. LeastOf places.now.levels.items (λ a. unequal (node_bits ops.old.triples got.now a) (node_bits ops.old.triples wanted.now a)) (row_of o)) }
     ensures grows { Grows ops.old ops.new }
-    ensures room { length ops.new.triples ≤ length ops.old.triples + length got.now * (2 * 2 ^ length levels.now) }
+    ensures room { length ops.new.triples ≤ length ops.old.triples + length got.now * (2 * 2 ^ length places.now.levels.items) }
     ensures full { result ≡ Err Stop.Nodes → length ops.new.triples ≡ ops.new.budget }
 {
     let mut least = None;
     for (i, one) in got.iter().enumerate() {
         let differ = ops.xor(*one, wanted[i])?;
-        let Ok(row) = least_row(alloc, ops, differ, levels) else {
+        let Ok(row) = least_row(alloc, ops, differ, places) else {
             return Err(Stop::Memory);
         };
         least = lesser(least, row);
@@ -95,29 +92,30 @@ fn least_input(
     Ok(least)
 }
 
-/// The verdict by the nodes of what is got and of what is wanted, over the first levels.
+/// The verdict by the nodes of what is got and of what is wanted, over the levels of the inputs.
 pub fn verdict(
     alloc: Global,
     ops: &mut Ops,
-    inputs: u32,
+    places: &Places,
     got: &[Node],
     wanted: &[Node],
 ) -> Result<Verdict, Stop>
-    requires got { AreNodes ops.old.triples got.now × DependOn ops.old.triples got.now (numbers inputs) }
-    requires wanted { AreNodes ops.old.triples wanted.now × DependOn ops.old.triples wanted.now (numbers inputs) }
+    requires places { IsInverse places.now.order.items places.now.levels.items }
+    requires got { AreNodes ops.old.triples got.now × DependOn ops.old.triples got.now places.now.levels.items }
+    requires wanted { AreNodes ops.old.triples wanted.now × DependOn ops.old.triples wanted.now places.now.levels.items }
     requires as_many { length wanted.now ≡ length got.now }
-    ensures verdict { IfOk result (IsLeast ops.new.triples inputs got.now wanted.now) }
+    ensures verdict { IfOk result (IsLeastOver ops.new.triples places.now.levels.items got.now wanted.now) }
     ensures grows { Grows ops.old ops.new }
-    ensures room { length ops.new.triples ≤ length ops.old.triples + length got.now * (2 * 2 ^ inputs) }
+    ensures room { length ops.new.triples ≤ length ops.old.triples + length got.now * (2 * 2 ^ length places.now.levels.items) }
     ensures full { result ≡ Err Stop.Nodes → length ops.new.triples ≡ ops.new.budget }
 {
-    let Ok(levels) = levels(alloc, inputs) else {
-        return Err(Stop::Memory);
-    };
-    let Some(input) = least_input(alloc, ops, levels.as_slice(), got, wanted)? else {
+    let Some(input) = least_difference(alloc, ops, places, got, wanted)? else {
         return Ok(Verdict::Verified);
     };
-    let (at, x, y) = first_difference(ops, got, wanted, input.as_slice());
+    let Ok(bits) = places.by_level(alloc, input.as_slice()) else {
+        return Err(Stop::Memory);
+    };
+    let (at, x, y) = first_difference(ops, got, wanted, bits.as_slice());
     let Ok(output) = u32::try_from(at + 1) else {
         return Err(Stop::Memory);
     };

@@ -28,6 +28,7 @@ mod expressions;
 mod least;
 mod nodes;
 mod ordered;
+mod places;
 mod sequence;
 mod unfolding;
 

@@ -19,7 +19,7 @@ pub enum Operator {
 }
 
 /// The node of an operator on two nodes.
-fn apply(ops: &mut Ops, operator: Operator, f: Node, g: Node) -> Result<Node, Stop>
+pub fn apply(ops: &mut Ops, operator: Operator, f: Node, g: Node) -> Result<Node, Stop>
     requires f { IsNode ops.old.triples f.0 }
     requires g { IsNode ops.old.triples g.0 }
     ensures is_node { IfOk result (λ n. IsNode ops.new.triples n.0) }
@@ -37,7 +37,7 @@ fn apply(ops: &mut Ops, operator: Operator, f: Node, g: Node) -> Result<Node, St
 
 /// The node of a chain of no operand.
 #[tactic(auto, using(crate::proofs::Kept::constants))]
-fn none(operator: Operator) -> Node
+pub fn none(operator: Operator) -> Node
     ensures constant { result.0 < 2 }
     ensures function { (ts : List Triple) (a : Bits) → function_of ts result.0 a ≡ chain_value operator [] }
 {

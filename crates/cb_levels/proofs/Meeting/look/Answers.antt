@@ -16,8 +16,8 @@ returns-clause-less c =
     let here : get_or entered at true ≡ false = get_or_default entered at true c.index.result.now l ∙ sym c.index.ensures ∙ off in
     let is : slice_get gates at ≡ Some c.in-Some.gate.now = sym c.in-Some.ensures.value in
     let pins = pins-marked gates entered at c.in-Some.gate.now l here is in
-    let marked : c.look_at.new.self.entered.items ≡ slice_set entered at true = search (rules, c.look_at.ensures.entered) in
+    let marked : c.look_below.new.self.entered.items ≡ slice_set entered at true = search (rules, c.look_below.ensures.entered) in
     let ins = ap length c.as_slice.ensures in
-    on_ok_weaker c.look_at.result
-    (λ pending. subst (λ e. to_look c.args.circuit.now e c.look_at.new.self.pending.items ≤ to_look c.args.circuit.now entered c.args.self.now.pending.items) (sym marked) (omega (arith, pending, pins, ins)))
-    c.look_at.ensures.pending
+    on_ok_weaker c.look_below.result
+    (λ pending. subst (λ e. to_look c.args.circuit.now e c.look_below.new.self.pending.items ≤ to_look c.args.circuit.now entered c.args.self.now.pending.items) (sym marked) (omega (arith, pending, pins, ins)))
+    c.look_below.ensures.pending

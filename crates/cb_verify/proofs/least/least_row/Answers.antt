@@ -1,8 +1,9 @@
-use Rattle.std.proofs.Common.{◌∙◌, ap, sym}
-use Rattle.std.proofs.lemmas.Bool.{eqb-true}
-use Rattle.cb_dd.specs.Diagram.{function_of}
-use Rattle.cb_dd.proofs.Diagrams.{function_of-zero}
+use Rattle.std.proofs.Common.{sym, subst}
+use Rattle.cb_levels.specs.Inverse.{IsInverse}
+use Rattle.cb_verify.proofs.Rows.{least-found}
 use Rattle.cb_verify.proofs.least.least_row.Goals as goal
 
-pub returns-then-eq : goal.returns-then-eq
-returns-then-eq c = λ a. ap (λ n. function_of c.args.ops.now.triples n a) (eqb-true c.args.node.0 0 (sym c.eq.ensures ∙ c.if-eq.true)) ∙ function_of-zero c.args.ops.now.triples a
+pub returns : goal.returns
+returns c =
+    least-found c.as_slice.result.now c.args.places.now.levels.items c.args.ops.now.triples c.args.node.0 c.in_ok-row.row c.in_ok-row.ensures.none c.in_ok-row.ensures.least
+    (subst (λ order. IsInverse order c.args.places.now.levels.items) (sym c.as_slice.ensures.value) c.requires.places) c.requires.support
