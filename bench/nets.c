@@ -1,6 +1,6 @@
 /* The comparison of two circuits by BuDDy. The words are a file `nets` of circuits.py and, if the levels are to be the
    inputs as they are listed, `ports`; else they are the inputs as a walk meets them from the outputs of the first circuit
-   back through its gates, each gate's inputs in the order of the text. */
+   back through its gates, each gate's inputs in the order of the text but the deepest last: the order of chipbool. */
 #include <bdd.h>
 #include <stdio.h>
 #include <stdlib.h>
@@ -67,12 +67,30 @@ static void read_circuit(FILE *file, struct circuit *circuit)
     circuit->outputs = numbers(file, &circuit->output);
 }
 
+/* The place of the deepest input of each gate, the last of those that are as deep. */
+static int *deepest(int inputs, const struct circuit *circuit)
+{
+    int *depth = calloc(inputs + circuit->gates + 1, sizeof *depth), *place = calloc(circuit->gates + 1, sizeof *place);
+    for (int k = 0; k < circuit->gates; k++) {
+        const struct gate *gate = &circuit->gate[k];
+        int most = 0;
+        for (int i = 0; i < gate->count; i++)
+            if (depth[gate->ins[i]] >= most) {
+                most = depth[gate->ins[i]];
+                place[k] = i;
+            }
+        depth[inputs + k] = most + 1;
+    }
+    free(depth);
+    return place;
+}
+
 /* The level of each input. */
 static int *levels(int inputs, const struct circuit *circuit, int by_ports)
 {
     int *level = malloc((inputs + 1) * sizeof *level), next = 0, count = 0, room = 1024;
     char *seen = calloc(inputs + circuit->gates + 1, 1);
-    int *pending = malloc(room * sizeof *pending);
+    int *pending = malloc(room * sizeof *pending), *last = deepest(inputs, circuit);
     for (int k = 0; k < inputs; k++)
         level[k] = by_ports ? next++ : -1;
     for (int o = 0; o < circuit->outputs && !by_ports; o++) {
@@ -89,8 +107,11 @@ static int *levels(int inputs, const struct circuit *circuit, int by_ports)
             const struct gate *gate = &circuit->gate[net - inputs];
             if (count + 9 > room)
                 pending = realloc(pending, (room *= 2) * sizeof *pending);
+            if (gate->count > 0)
+                pending[count++] = gate->ins[last[net - inputs]];
             for (int k = gate->count - 1; k >= 0; k--)
-                pending[count++] = gate->ins[k];
+                if (k != last[net - inputs])
+                    pending[count++] = gate->ins[k];
         }
     }
     for (int k = 0; k < inputs; k++)
