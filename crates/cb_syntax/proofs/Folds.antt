@@ -1,11 +1,11 @@
 -- The forms of written terms, by their constructors.
-use Rattle.std.specs.Prelude.{MatchResult}
+use Rattle.std.specs.Prelude.{MatchResult, Option, option_map}
 use Rattle.std.proofs.Common.{◌≡◌, Bor, ℕ, List, [], ◌∷◌, ◌++◌, ◌∙◌, map, Some, None, Result, Ok, Err, refl, ap}
 use Rattle.std.proofs.lemmas.List.{map-append}
 use Rattle.cb_model.specs.declared.RawTerm.{RawTerm}
 use Rattle.cb_model.specs.declared.RawTerm.TheVariants as raw
 use Rattle.cb_model.specs.Grammar.{Op, Plus, Hash, Star, Form, Name, Closed, Open, Not, Last, chain}
-use Rattle.cb_model.specs.Forms.{form_of, forms_of}
+use Rattle.cb_model.specs.Forms.{form_of, forms_of, list_form}
 use Rattle.cb_laws.proofs.FormValues.{form_not, form_closed, form_open, form_name}
 use Rattle.cb_syntax.specs.Steps.{joined_form}
 
@@ -18,8 +18,9 @@ name_none x xs n e h = name_with x xs n e ∙ ap (λ (ys : List RawTerm). Name n
 pub list_none : (xs : List RawTerm) → xs ≡ [] → form_of (raw.List xs None) ≡ Closed Last
 list_none xs h = form_closed xs ∙ ap (λ (ys : List RawTerm). Closed (forms_of (map form_of ys))) h
 
-pub list_tail : (xs : List RawTerm) (y z : RawTerm) → y ≡ z → form_of (raw.List xs (Some y)) ≡ Open (forms_of (map form_of xs)) (form_of z)
-list_tail xs y z h = form_open xs y ∙ ap (λ (v : RawTerm). Open (forms_of (map form_of xs)) (form_of v)) h
+pub list_of : (xs : List RawTerm) (y : Option RawTerm) → form_of (raw.List xs y) ≡ list_form (forms_of (map form_of xs)) (option_map form_of y)
+list_of xs None = form_closed xs
+list_of xs (Some y) = form_open xs y
 
 pub not_of : (y z : RawTerm) → y ≡ z → form_of (raw.Not y) ≡ Not (form_of z)
 not_of y z h = form_not y ∙ ap (λ (v : RawTerm). Not (form_of v)) h

@@ -2,7 +2,7 @@
 
 ghost use Rattle.std.specs.Prelude.{◌≡◌, ◌<◌, ◌≤◌, ◌+◌, ◌↔◌, [], ◌∷◌, ◌++◌, length, map, option_map, IsTrue, IfOk, MatchOption, MatchResult, MatchBool};
 ghost use Rattle.cb_model.specs.Forms.{form_of, forms_of, list_form};
-ghost use Rattle.cb_model.specs.Grammar.{IsAtom, op_kind, Plus as plus, chain as chain_of};
+ghost use Rattle.cb_model.specs.Grammar.{Forms, IsAtom, op_kind, Plus as plus, chain as chain_of};
 ghost use Rattle.cb_model.specs.Tokens.{name_of};
 ghost use Rattle.cb_lex.specs.View.{token_of};
 ghost use Rattle.cb_syntax.specs.Machine.{Chain as ChainItem, Operands as OperandsItem};
@@ -241,15 +241,41 @@ fn list_end<'s>(
     ensures answer { MatchResult result (λ r. TookListEnd depth (forms_of (map form_of elements.entry)) (rest tokens.now at) (rest tokens.now r.1) (form_of r.0)) (λ e. NoListEnd depth (rest tokens.now at) e) }
     ensures forward { IfOk result (λ r. at < r.1) }
 {
+    match tail(alloc, tokens, at, depth) {
+        Ok((tail, behind)) => Ok((RawTerm::List(elements, tail), behind)),
+        Err(stop) => {
+            drop(elements);
+            Err(stop)
+        }
+    }
+}
+
+/// The tail of a list behind its elements, if there is one, and the place behind the list's bracket.
+#[cycle(reader)]
+fn tail<'s>(
+    alloc: Global,
+    tokens: &[Token<'s>],
+    at: usize,
+    depth: u32,
+) -> Result<(Option<Boxed<RawTerm<'s>>>, usize), Stop>
+    requires { depth ≤ 256 }
+    ensures answer { MatchResult result (λ r. (xs : Forms) → TookListEnd depth xs (rest tokens.now at) (rest tokens.now r.1) (list_form xs (option_map form_of r.0))) (λ e. NoListEnd depth (rest tokens.now at) e) }
+    ensures forward { IfOk result (λ r. at < r.1) }
+{
     let Some(next) = peek(tokens, at) else {
         return Err(Stop::Ended);
     };
     match next.kind {
-        Kind::RightBracket => Ok((RawTerm::List(elements, None), at + 1)),
+        Kind::RightBracket => Ok((None, at + 1)),
         Kind::Bar => {
             let (tail, after) = chain(alloc, Operator::Plus, tokens, at + 1, depth)?;
-            let behind = expect(Kind::RightBracket, tokens, after)?;
-            Ok((RawTerm::List(elements, Some(boxed(alloc, tail)?)), behind))
+            match expect(Kind::RightBracket, tokens, after) {
+                Ok(behind) => Ok((Some(boxed(alloc, tail)?), behind)),
+                Err(stop) => {
+                    drop(tail);
+                    Err(stop)
+                }
+            }
         }
         _ => Err(Stop::Wrong(tokens.len() - at)),
     }

@@ -1,6 +1,7 @@
 use Rattle.std.proofs.Common.{◌<◌, ◌≤◌, ◌+◌, length, subst, ◌∙◌, ap, map, arith, rules}
 use Rattle.std.proofs.lemmas.Result.{err_from_is_err_and}
 use Rattle.cb_model.specs.Forms.{form_of, forms_of}
+use Rattle.cb_model.specs.Grammar.{Last, Open}
 use Rattle.cb_lex.specs.View.{token_of}
 use Rattle.cb_syntax.specs.Steps.{rest, op_of, AheadOf, NoKind}
 use Rattle.cb_model.specs.declared.RawTerm.TheVariants as raw
@@ -8,7 +9,7 @@ use Rattle.std.proofs.lemmas.Int.{to_z-of_z}
 use Rattle.std.specs.Int.{w64}
 use Rattle.std.specs.Prelude.{FitsSigned}
 use Rattle.cb_laws.proofs.FormValues.{form_variable, form_integer, form_closed}
-use Rattle.cb_syntax.proofs.Folds.{match_map, not_of, name_with, name_none, list_none, list_tail, pushed}
+use Rattle.cb_syntax.proofs.Folds.{match_map, not_of, name_with, name_none, list_none, list_of, pushed}
 use Rattle.cb_syntax.proofs.Moves.{call_end, call_form, args_open, args_took, chain_stop, chain_stops, chain_took, operand_form, operand_variable, operand_integer, not_took, group_open, group_took, list_took, list_stops, list_form_is, list_end_form, call_took, call_stops, operands_more, operands_end, terms_more, terms_took, nil_took, memory, elements_stop, elements_took, list_end_stops, closed_took, tail_open, tail_took}
 use Rattle.cb_syntax.proofs.read.+reader.Goals as goal
 
@@ -58,21 +59,24 @@ list-returns-clause-answer t c =
     (λ r s. elements_took _ _ _ _ _ _ c.if-stands.ensures c.in_ok-elements.ensures.answer s)
     (λ e s. list_end_stops _ _ _ _ c.if-stands.ensures c.in_ok-elements.ensures.answer e s)
 
-pub list_end-returns-in-RightBracket-clause-answer : goal.list_end-returns-in-RightBracket-clause-answer
-list_end-returns-in-RightBracket-clause-answer t c =
-    list_end_form _ _ _ _ _ _ (form_closed c.args.elements) (closed_took _ _ _ _ _ _ (record { token = token_of c.in-Some.next; is = c.in-RightBracket.is; ahead = c.in-Some.ensures }) c.requires)
+pub list_end-returns-in-Ok-clause-answer : goal.list_end-returns-in-Ok-clause-answer
+list_end-returns-in-Ok-clause-answer t c =
+    list_end_form _ _ _ _ _ _ (list_of c.args.elements c.in-Ok.tail) (c.in-Ok.ensures.answer (forms_of (map form_of c.args.elements)))
 
-pub list_end-returns-in_err-behind-in-Bar-clause-answer : goal.list_end-returns-in_err-behind-in-Bar-clause-answer
-list_end-returns-in_err-behind-in-Bar-clause-answer t c =
-    let p = err_from_is_err_and c.from_residual-in_err-behind-in-Bar.result c.from_residual-in_err-behind-in-Bar.ensures.1 in
-    rw (p.1, p.2) (tail_open c.args.depth _ _ (forms_of (map form_of c.args.elements)) (rest c.args.tokens.now c.args.at) _ (record { token = token_of c.in-Some.next; is = c.in-Bar.is; ahead = c.in-Some.ensures }) c.requires
-    (rest c.args.tokens.now c.in_ok-tail-in-Bar.after) (form_of c.in_ok-tail-in-Bar.tail) c.in_ok-tail-in-Bar.ensures.answer c.in_err-behind-in-Bar.field-0.0 c.in_err-behind-in-Bar.ensures)
+pub tail-returns-in-RightBracket-clause-answer : goal.tail-returns-in-RightBracket-clause-answer
+tail-returns-in-RightBracket-clause-answer t c =
+    λ xs. closed_took _ _ _ _ _ _ (record { token = token_of c.in-Some.next; is = c.in-RightBracket.is; ahead = c.in-Some.ensures }) c.requires
 
-pub list_end-returns-in-Bar-clause-answer : goal.list_end-returns-in-Bar-clause-answer
-list_end-returns-in-Bar-clause-answer t c =
-    list_end_form _ _ _ _ _ _ (list_tail c.args.elements _ c.in_ok-tail-in-Bar.tail c.in_ok-boxed-in-Bar.ensures)
-    (tail_took c.args.depth _ _ (forms_of (map form_of c.args.elements)) (rest c.args.tokens.now c.args.at) _ (record { token = token_of c.in-Some.next; is = c.in-Bar.is; ahead = c.in-Some.ensures }) c.requires
-    (rest c.args.tokens.now c.in_ok-tail-in-Bar.after) (form_of c.in_ok-tail-in-Bar.tail) c.in_ok-tail-in-Bar.ensures.answer c.in_ok-tail-in-Bar.after (rest c.args.tokens.now c.in_ok-behind-in-Bar.behind) c.in_ok-behind-in-Bar.ensures.1)
+pub tail-returns-in-Err-clause-answer : goal.tail-returns-in-Err-clause-answer
+tail-returns-in-Err-clause-answer t c =
+    tail_open c.args.depth _ _ Last (rest c.args.tokens.now c.args.at) _ (record { token = token_of c.in-Some.next; is = c.in-Bar.is; ahead = c.in-Some.ensures }) c.requires
+    (rest c.args.tokens.now c.in_ok-tail-in-Bar.after) (form_of c.in_ok-tail-in-Bar.tail) c.in_ok-tail-in-Bar.ensures.answer c.in-Err.stop c.in-Err.ensures
+
+pub tail-returns-in_ok-boxed-in-Ok-clause-answer : goal.tail-returns-in_ok-boxed-in-Ok-clause-answer
+tail-returns-in_ok-boxed-in-Ok-clause-answer t c =
+    λ xs. list_end_form _ _ _ _ _ _ (ap (λ v. Open xs (form_of v)) c.in_ok-boxed-in-Ok.ensures)
+    (tail_took c.args.depth _ _ xs (rest c.args.tokens.now c.args.at) _ (record { token = token_of c.in-Some.next; is = c.in-Bar.is; ahead = c.in-Some.ensures }) c.requires
+    (rest c.args.tokens.now c.in_ok-tail-in-Bar.after) (form_of c.in_ok-tail-in-Bar.tail) c.in_ok-tail-in-Bar.ensures.answer c.in_ok-tail-in-Bar.after (rest c.args.tokens.now c.in-Ok.behind) c.in-Ok.ensures.1)
 
 pub operand-returns-in-Variable-clause-answer : goal.operand-returns-in-Variable-clause-answer
 operand-returns-in-Variable-clause-answer t c = operand_form _ _ _ _ _ (form_variable c.in-Some.first.text) (operand_variable _ _ _ _ _ (token_of c.in-Some.first) (c.in-Some.ensures) c.in-Variable.is c.requires)

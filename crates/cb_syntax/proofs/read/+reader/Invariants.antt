@@ -20,7 +20,10 @@ abbrev pub decreases-list : goal.decreases-list
 decreases-list l = 20 * (length l.tokens.now - l.at) + 11
 
 abbrev pub decreases-list_end : goal.decreases-list_end
-decreases-list_end l = 20 * (length l.tokens.now - l.at)
+decreases-list_end l = 20 * (length l.tokens.now - l.at) + 1
+
+abbrev pub decreases-tail : goal.decreases-tail
+decreases-tail l = 20 * (length l.tokens.now - l.at)
 
 abbrev pub decreases-chain : goal.decreases-chain
 decreases-chain l = 20 * (length l.tokens.now - l.at) + 3 + levels l.op
