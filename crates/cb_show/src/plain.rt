@@ -17,6 +17,7 @@ pub fn plain_name<S: Sink>(out: &mut S, name: &[u8]) -> Result<(), Failed>
     ensures whole { OnOk result (Wrote (S.written out.old) (S.written out.new) (name_text name.now)) }
     ensures front { OnErr result (Front (S.written out.old) (S.written out.new) (name_text name.now)) }
     ensures count { S.faults out.old ≤ S.faults out.new }
+    ensures kept { OnOk result (S.faults out.new ≡ S.faults out.old) }
     ensures failed { OnErr result (Rose (S.faults out.old) (S.faults out.new)) }
 {
     if is_plain(name) {
@@ -33,6 +34,7 @@ pub fn number<S: Sink>(out: &mut S, n: i64) -> Result<(), Failed>
     ensures whole { OnOk result (Wrote (S.written out.old) (S.written out.new) (signed_decimal n)) }
     ensures front { OnErr result (Front (S.written out.old) (S.written out.new) (signed_decimal n)) }
     ensures count { S.faults out.old ≤ S.faults out.new }
+    ensures kept { OnOk result (S.faults out.new ≡ S.faults out.old) }
     ensures failed { OnErr result (Rose (S.faults out.old) (S.faults out.new)) }
 {
     let mut buffer = Buffer::new();

@@ -177,6 +177,7 @@ pub fn value<S: Sink, N: Names>(
     ensures memory { result ≡ Err (ShowError.Stop Stop.Memory) → out.new ≡ out.old }
     ensures nodes { result ≢ Err (ShowError.Stop Stop.Nodes) }
     ensures count { S.faults out.old ≤ S.faults out.new }
+    ensures kept { OnOk result (S.faults out.new ≡ S.faults out.old) }
     ensures failed { (e : Failed) → result ≡ Err (ShowError.Failed e) → Rose (S.faults out.old) (S.faults out.new) }
 {
     let mut text = Vec::new(alloc);
