@@ -83,8 +83,30 @@ impl Search<'_> {
         upto
     }
 
-    /// Goes on over the inputs from `next` on that have 1 wherever the diagram is 1, by runs of half the length after
-    /// each other; answers the next input.
+    /// Goes on over the inputs from `next` on that have 1 wherever the diagram is 1, by runs of twice the length after each
+    /// other; answers the next input, and the length of the run that was too long.
+    fn widen(&self, next: usize, bits: &mut [bool], counts: &mut [usize]) -> (usize, usize)
+        requires search { IsSearch self.now.ops.now.triples self.now.root.0 self.now.marks.now self.now.order.now }
+        requires found { AreFound self.now.ops.now.triples self.now.order.now bits.old next self.now.root.0 }
+        requires room { length counts.old ≡ self.now.root.0 + 1 }
+        ensures found { AreFound self.now.ops.now.triples self.now.order.now bits.new result.0 self.now.root.0 }
+        ensures on { next ≤ result.0 }
+    {
+        let mut at = next;
+        let mut width: usize = 1;
+        for _ in 0..usize::BITS {
+            let upto = self.ones_within(at, width, bits, counts);
+            if upto == at {
+                return (at, width);
+            }
+            at = upto;
+            width = width.saturating_mul(2);
+        }
+        (at, width)
+    }
+
+    /// Goes on over the inputs from `next` on that have 1 wherever the diagram is 1, by runs of twice the length after each
+    /// other, and then of half the length; answers the next input.
     fn ones_from(&self, next: usize, bits: &mut [bool], counts: &mut [usize]) -> usize
         requires search { IsSearch self.now.ops.now.triples self.now.root.0 self.now.marks.now self.now.order.now }
         requires found { AreFound self.now.ops.now.triples self.now.order.now bits.old next self.now.root.0 }
@@ -92,12 +114,9 @@ impl Search<'_> {
         ensures found { AreFound self.now.ops.now.triples self.now.order.now bits.new result self.now.root.0 }
         ensures on { next ≤ result }
     {
-        let first = self.ones_within(next, 1, bits, counts);
-        if first == next {
-            return next;
-        }
+        let (first, long) = self.widen(next, bits, counts);
         let mut at = first;
-        let mut width = self.order.len();
+        let mut width = long / 2;
         while width > 0 {
             at = self.ones_within(at, width, bits, counts);
             width /= 2;
@@ -132,7 +151,7 @@ impl Search<'_> {
 /// The least input at which a node is 1, where 0 comes before 1 and the first bit weighs most; `None` for the node
 /// that is 0 everywhere. `order` has the input of each level. A pass over the diagram finds the next 1 of the input, and
 /// some more the inputs behind it that have 1 wherever the diagram is 1: the time is that of a pass for each run of zeros,
-/// and of as many as the number of inputs has binary digits for each run of ones.
+/// and of about two for each binary digit of the length of each run of ones.
 pub fn least_input(
     alloc: Global,
     ops: &Ops,
