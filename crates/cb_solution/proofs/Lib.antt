@@ -1,5 +1,8 @@
 pub mod Steps
 pub mod Solved
-mod Loops
+pub mod Loops
 pub mod Gathered
 pub mod Lower
+pub mod Stages
+mod Places
+mod Eliminated

@@ -1,7 +1,7 @@
 -- Elimination level by level, and the images on the way back.
-use Rattle.std.proofs.Common.{◌≡◌, ◌⊎◌, inl, inr, ℕ, zero, suc, ◌+◌, ◌*◌, ◌<◌, ◌≤◌, ◌^◌, List, [], ◌∷◌, ◌++◌, length, take, drop, get_or, None, refl, sym, ap, subst, ◌∙◌, arith, length-append}
-use Rattle.std.proofs.lemmas.Bool.{cases_eq, true≢false}
-use Rattle.std.proofs.lemmas.List.{take_more, drop_more, get_or_append_left}
+use Rattle.std.proofs.Common.{◌≡◌, ◌⊎◌, inl, inr, ℕ, zero, suc, ◌+◌, ◌*◌, ◌<◌, ◌≤◌, ◌^◌, List, [], ◌∷◌, ◌++◌, length, take, drop, get_or, refl, sym, ap, subst, ◌∙◌, arith, length-append}
+use Rattle.std.proofs.lemmas.Bool.{cases_eq}
+use Rattle.std.proofs.lemmas.List.{take_more, get_or_append_left}
 use Rattle.std.proofs.Math.Seq.{get_or-append_seam, take-length}
 use Rattle.std.proofs.Math.Nat.{mul-le-mul_right}
 use Rattle.std.proofs.Math.Path.{fun_ext}
@@ -11,15 +11,13 @@ use Rattle.cb_dd.specs.Diagram.{Store, IsDiagram, IsNode, function_of}
 use Rattle.cb_dd.proofs.Diagrams.{function_of-zero}
 use Rattle.cb_ops.specs.Ops.{Grows, StandsFor, Room, DependsOn}
 use Rattle.cb_ops.specs.Support.{IsListed}
-use Rattle.cb_ops.specs.Substitute.{Images, image_of}
-use Rattle.cb_ops.specs.Composed.{AreLower}
+use Rattle.cb_ops.specs.Substitute.{Images}
 use Rattle.cb_ops.proofs.Ite.{grown-function, grown-node, grown-depends, Grows-then, Grows-same}
 use Rattle.cb_boole.specs.Elimination.{Function, both, rest, solved, DependsOnly}
 use Rattle.cb_boole.proofs.Only.{both_only}
-use Rattle.cb_boole.proofs.Chain.{rest_false, solved_keeps}
-use Rattle.cb_solution.specs.Solution.{AreRests, IsFalling, IsImage, IsSolution, HasRest, ImageRoom, ImagesRoom, RestsRoom, SolutionRoom}
-use Rattle.cb_solution.proofs.Lower.{solution-lower, solution-fresh}
-use Rattle.cb_solution.proofs.Solved.{listed-there, only-from, only-into, listed-at, solution-more, solution-within, somewhere-one}
+use Rattle.cb_solution.specs.Solution.{AreRests, IsFalling, IsSolution, HasRest, RestsRoom, SolutionRoom}
+use Rattle.cb_solution.specs.Parts.{AreParts, AreStages, PartsDepend, Solves, StagesRoom}
+use Rattle.cb_solution.proofs.Solved.{listed-there, only-from, only-into, somewhere-one}
 
 -- ---- rests of the first levels
 
@@ -37,7 +35,7 @@ rest-only P [] f d = d
 rest-only P (l ∷ ls) f d = rest-only P ls (both l f) (both_only P l f d)
 
 -- what is left after the first levels and then after the others
-rest-split : (ls : List ℕ) (k : ℕ) (f : Function) → rest (drop k ls) (rest (take k ls) f) ≡ rest ls f
+pub rest-split : (ls : List ℕ) (k : ℕ) (f : Function) → rest (drop k ls) (rest (take k ls) f) ≡ rest ls f
 unfolding rest
 rest-split [] zero f = refl
 rest-split [] (suc k) f = refl
@@ -147,127 +145,21 @@ rests-stop i f levels s t u ns left wf so tu less room = record {
 
 -- ---- the second loop
 
-drop-none : (ls : List ℕ) → drop 0 ls ≡ ls
+pub drop-none : {A : Type 0} → (ls : List A) → drop 0 ls ≡ ls
 drop-none [] = refl
 drop-none (l ∷ ls) = refl
 
-drop-listed : (i : ℕ) (ls : List ℕ) (l : ℕ) → IsListed (drop i ls) l → IsListed ls l
+pub drop-listed : (i : ℕ) (ls : List ℕ) (l : ℕ) → IsListed (drop i ls) l → IsListed ls l
 drop-listed zero [] l h = h
 drop-listed zero (k ∷ ls) l h = h
 drop-listed (suc i) [] l h = h
 drop-listed (suc i) (k ∷ ls) l h = listed-there k l ls (drop-listed i ls l h)
 
-drop-falls : (i : ℕ) (ls : List ℕ) → IsFalling ls → IsFalling (drop i ls)
+pub drop-falls : (i : ℕ) (ls : List ℕ) → IsFalling ls → IsFalling (drop i ls)
 drop-falls zero [] f = f
 drop-falls zero (k ∷ ls) f = f
 drop-falls (suc i) [] f = f
 drop-falls (suc i) (k ∷ ls) f = drop-falls i ls f.1
-
--- a node that has the same function has the same solution
-same-solution : (old new : List Triple) (f g : ℕ) (levels : List ℕ) (images : Images) → function_of old f ≡ function_of old g → IsSolution old new f levels images → IsSolution old new g levels images
-same-solution old new f g levels images e sol = record {
-  rise = sol.rise;
-  within = sol.within;
-  nodes = sol.nodes;
-  at = λ p. sol.at p ∙ ap (λ h. solved levels h p) e;
-  none_left = λ p. ap (λ h. rest levels h p) (sym e) ∙ sol.none_left p;
-}
-
-scaled-images : (n i j k x : ℕ) → k ≤ n + i * x → i ≤ j → k ≤ n + j * x
-scaled-images n i j k x h le = let p : i * x ≤ j * x = mul-le-mul_right x le in omega arith
-
--- the images of all levels but the first so many
-pub record ImagesSo (i f : ℕ) (levels : List ℕ) (s u : Store) (images : Images) : Type 0 where
-  pub grows : Grows s u
-  pub node : ℕ
-  pub is_node : IsNode s.triples node
-  pub is : StandsFor s.triples node (rest (take i levels) (function_of s.triples f))
-  pub sol : IsSolution s.triples u.triples node (drop i levels) images
-  pub done : ℕ
-  pub few : done + i ≤ length levels
-  pub most : (ls : List ℕ) → DependsOn s.triples f ls → ((l : ℕ) → IsListed levels l → IsListed ls l) → length u.triples ≤ length s.triples + done * (2 * 2 ^ length ls + 2 ^ length ls * 2 ^ length ls)
-  pub fulls : u.fulls ≡ s.fulls
-
-pub images-first : (f : ℕ) (levels : List ℕ) (s : Store) (ns : List Node) → AreRests s.triples f levels ns 0 → ImagesSo (length ns) f levels s s []
-images-first f levels s ns r = record {
-  grows = Grows-same s;
-  node = 0;
-  is_node = r.last_node;
-  is = r.end;
-  sol = record {
-    rise = λ k h. absurd (omega arith);
-    within = λ l h. absurd (true≢false (sym h));
-    nodes = tt;
-    at = λ p. sym (solved_keeps (drop (length ns) levels) (function_of s.triples 0) p (function_of-zero s.triples p));
-    none_left = λ p. rest_false (drop (length ns) levels) (function_of s.triples 0) p (function_of-zero s.triples p);
-  };
-  done = 0;
-  few = let h = r.few in omega arith;
-  most = λ ls d all. omega arith;
-  fulls = refl;
-}
-
-module _ (i f : ℕ) (levels : List ℕ) (s u : Store) (images : Images) (so : ImagesSo (i + 1) f levels s u images) (node : Node) (wn : IsNode s.triples node.0) (is : StandsFor s.triples node.0 (rest (take i levels) (function_of s.triples f)))
-    (v : Store) (uv : Grows u v) where
-  less : i < length levels
-  less = let h = so.few in omega arith
-
-  both-left : StandsFor s.triples so.node (both (get_or levels i 0) (function_of s.triples node.0))
-  both-left = record {
-    at = λ a. so.is.at a ∙ ap (λ (g : Function). g a) (rest-next levels i (function_of s.triples f) less) ∙ ap (λ g. both (get_or levels i 0) g a) (fun_ext (λ b. sym (is.at b)));
-  }
-
-  module _ (room : ImageRoom node.0 (get_or levels i 0) images u v) where
-    most-images : (ls : List ℕ) → DependsOn s.triples f ls → ((l : ℕ) → IsListed levels l → IsListed ls l) → length v.triples ≤ length s.triples + (so.done + 1) * (2 * 2 ^ length ls + 2 ^ length ls * 2 ^ length ls)
-    most-images ls d all =
-        let m = so.most ls d all in
-        let r = room.most ls
-        (grown-depends s u so.grows node.0 ls wn (rest-depends s.triples f node.0 (take i levels) ls is d))
-        (all (get_or levels i 0) (listed-at levels i less))
-        (solution-within s.triples u.triples so.node (drop (i + 1) levels) images so.sol ls (rest-depends s.triples f so.node (take (i + 1) levels) ls so.is d) (λ l h. all l (drop-listed (i + 1) levels l h))) in
-        omega arith
-
-    pub images-stop : ImagesRoom f levels s v
-    images-stop = record { most = λ ls d all. scaled-images (length s.triples) (so.done + 1) (length levels) (length v.triples) (2 * 2 ^ length ls + 2 ^ length ls * 2 ^ length ls) (most-images ls d all) (let h = so.few in omega arith) }
-
-    pub images-next : IsFalling levels → (image : Node) → IsNode v.triples image.0 → IsImage u.triples v.triples node.0 (get_or levels i 0) images image.0 → v.fulls ≡ u.fulls →
-        (more : Images) → more ≡ images ++ (get_or levels i 0, image) ∷ [] → ImagesSo i f levels s v more
-    images-next fall image wi is_image fulls more pushed = subst (λ (xs : Images). ImagesSo i f levels s v xs) (sym pushed) (record {
-      grows = Grows-then s u v so.grows uv;
-      node = node.0;
-      is_node = wn;
-      is = is;
-      sol = subst (λ (ls : List ℕ). IsSolution s.triples v.triples node.0 ls (images ++ (get_or levels i 0, image) ∷ [])) (sym (drop_more levels i 0 less))
-          (solution-more s s u v (Grows-same s) so.grows uv node.0 so.node (get_or levels i 0) (drop (i + 1) levels) wn so.is_node both-left
-          (subst IsFalling (drop_more levels i 0 less) (drop-falls i levels fall)) images so.sol image wi is_image);
-      done = so.done + 1;
-      few = let h = so.few in omega arith;
-      most = most-images;
-      fulls = fulls ∙ so.fulls;
-    })
-
--- the images are free of the greater replaced levels, and the next level has none yet
-module _ (i f : ℕ) (levels : List ℕ) (s u : Store) (images : Images) (so : ImagesSo (i + 1) f levels s u images) (fall : IsFalling levels) where
-  pub images-lower : AreLower u.triples images
-  images-lower = solution-lower s.triples u.triples so.node (drop (i + 1) levels) images (drop-falls (i + 1) levels fall) so.sol
-
-  pub images-fresh : image_of images (get_or levels i 0) ≡ None
-  images-fresh =
-      let less : i < length levels = (let h = so.few in omega (arith, h)) in
-      solution-fresh s.triples u.triples so.node (get_or levels i 0) (drop (i + 1) levels) images (subst IsFalling (drop_more levels i 0 less) (drop-falls i levels fall)) so.sol
-
-pub images-room : (i f : ℕ) (levels : List ℕ) (s u : Store) (images : Images) → ImagesSo i f levels s u images → ImagesRoom f levels s u
-images-room i f levels s u images so = record { most = λ ls d all. scaled-images (length s.triples) so.done (length levels) (length u.triples) (2 * 2 ^ length ls + 2 ^ length ls * 2 ^ length ls) (so.most ls d all) (let h = so.few in omega arith) }
-
-pub images-end : (f : ℕ) (levels : List ℕ) (s u : Store) (images : Images) → ImagesSo 0 f levels s u images → IsSolution s.triples u.triples f levels images
-unfolding rest
-images-end f levels s u images so =
-    same-solution s.triples u.triples so.node f levels images (fun_ext (λ a. so.is.at a ∙ ap (λ xs. rest xs (function_of s.triples f) a) (take-none levels)))
-    (subst (λ (ls : List ℕ). IsSolution s.triples u.triples so.node ls images) (drop-none levels) so.sol)
-  where
-    take-none : (ls : List ℕ) → take 0 ls ≡ []
-    take-none [] = refl
-    take-none (l ∷ ls) = refl
 
 -- ---- both
 
@@ -286,8 +178,28 @@ rests-rest s t st is f levels ns left wf r some =
           ∙ sym (r.end.at w.0) ∙ w.1;
     }
 
+-- ---- the stages of one equation
+
+parts-from : (ts : List Triple) (ns : List Node) → ((k : ℕ) (d : Node) → k < length ns → IsNode ts (get_or ns k d).0) → AreParts ts ns
+parts-from ts [] h = tt
+parts-from ts (n ∷ ns) h = (h 0 n (omega arith), parts-from ts ns (λ k d less. h (suc k) d (omega (arith, less))))
+
+depend-from : (ts : List Triple) (ns : List Node) (ls : List ℕ) → ((k : ℕ) (d : Node) → k < length ns → DependsOn ts (get_or ns k d).0 ls) → PartsDepend ts ns ls
+depend-from ts [] ls h = tt
+depend-from ts (n ∷ ns) ls h = (h 0 n (omega arith), depend-from ts ns ls (λ k d less. h (suc k) d (omega (arith, less))))
+
+pub rests-parts : (ts : List Triple) (f : ℕ) (levels : List ℕ) (ns : List Node) (last : ℕ) → AreRests ts f levels ns last → AreParts ts ns
+rests-parts ts f levels ns last r = parts-from ts ns r.nodes
+
+pub rests-stages : (ts : List Triple) (f : ℕ) (levels : List ℕ) (ns : List Node) (last : ℕ) → AreRests ts f levels ns last → last ≡ 0 → AreStages ts (function_of ts f) levels ns
+rests-stages ts f levels ns last r e = record {
+  few = r.few;
+  at = λ k d less p none. (r.at k d less).at p;
+  end = λ p. sym (r.end.at p) ∙ ap (λ n. function_of ts n p) e ∙ function_of-zero ts p;
+}
+
 module _ (s t u : Store) (st : Grows s t) (tu : Grows t u) (f : ℕ) (wf : IsNode s.triples f) (levels : List ℕ) where
-  pub solution-is : (images : Images) → IsSolution t.triples u.triples f levels images → IsSolution s.triples u.triples f levels images
+  pub solution-is : (images : Images) → Solves u.triples (function_of t.triples f) levels images → IsSolution s.triples u.triples f levels images
   solution-is images sol = record {
     rise = sol.rise;
     within = sol.within;
@@ -296,10 +208,18 @@ module _ (s t u : Store) (st : Grows s t) (tu : Grows t u) (f : ℕ) (wf : IsNod
     none_left = λ p. ap (λ h. rest levels h p) (fun_ext (λ a. sym (grown-function s t st f wf a))) ∙ sol.none_left p;
   }
 
-  pub solution-room : RestsRoom f levels s t → ImagesRoom f levels t u → SolutionRoom f levels s u
-  solution-room first second = record {
-    most = λ ls d all. let m = first.most ls d in let n = second.most ls (grown-depends s t st f ls wf d) all in omega arith;
+  pub solution-room : (ns : List Node) (last : ℕ) → AreRests t.triples f levels ns last → RestsRoom f levels s t → StagesRoom ns levels t u → SolutionRoom f levels s u
+  solution-room ns last r first second = record {
+    most = λ ls d all.
+        let m = first.most ls d in
+        let e = depend-from t.triples ns ls (λ k o less. rest-depends t.triples f (get_or ns k o).0 (take k levels) ls (r.at k o less) (grown-depends s t st f ls wf d)) in
+        let n = second.most ls e all in
+        let few = mul-le-mul_right {m = length ns} {n = length levels} (2 * 2 ^ length ls + 2 ^ length ls * 2 ^ length ls) r.few in
+        total (length s.triples) (length t.triples) (length u.triples) (length levels) (length ns * (2 * 2 ^ length ls + 2 ^ length ls * 2 ^ length ls)) (2 ^ length ls) (2 ^ length ls * 2 ^ length ls) m n few;
   }
+    where
+      total : (s t u l k x y : ℕ) → t ≤ s + l * (3 * x) → u ≤ t + k → k ≤ l * (2 * x + y) → u ≤ s + l * (5 * x + y)
+      total s t u l k x y a b c = let e : l * (5 * x + y) ≡ l * (3 * x) + l * (2 * x + y) = grind arith in omega (arith, a, b, c, e)
 
 pub first-room : (s t : Store) (f : ℕ) (levels : List ℕ) → RestsRoom f levels s t → SolutionRoom f levels s t
 first-room s t f levels first = record { most = λ ls d all. let m = first.most ls d in omega arith }

@@ -1,5 +1,5 @@
 -- The images of a solution: each is free of the greater levels that are replaced, and so many of the levels are.
-use Rattle.std.proofs.Common.{◌≡◌, ◌⊎◌, inl, inr, ℕ, zero, suc, ◌+◌, ◌*◌, ◌<◌, ◌≤◌, ◌^◌, Bool, true, false, cond, ◌||◌, List, [], ◌∷◌, length, nat_eq, None, sym, ap, subst, ◌∙◌, arith}
+use Rattle.std.proofs.Common.{◌≡◌, ◌⊎◌, inl, inr, ℕ, zero, suc, ◌+◌, ◌*◌, ◌<◌, ◌≤◌, ◌^◌, Bool, true, false, cond, ◌||◌, List, [], ◌∷◌, length, nat_eq, sym, ap, subst, ◌∙◌, arith}
 use Rattle.std.proofs.lemmas.Bool.{cases_Bool, cases_eq, eqb-true, true≢false}
 use Rattle.std.proofs.lemmas.Nat.{pow-add}
 use Rattle.std.proofs.Math.Nat.{mul-le-mul_right}
@@ -10,21 +10,21 @@ use Rattle.cb_model.specs.Bits.{Bits, put}
 use Rattle.cb_dd.specs.declared.Triple.{Triple}
 use Rattle.cb_dd.specs.Diagram.{function_of}
 use Rattle.cb_ops.specs.Support.{IsListed}
-use Rattle.cb_ops.specs.Substitute.{Images, image_of}
+use Rattle.cb_ops.specs.Substitute.{Images}
 use Rattle.cb_ops.specs.Composed.{AreLower}
 use Rattle.cb_ops.proofs.Ite.{put-other}
 use Rattle.cb_boole.specs.Elimination.{Function, both, solved, DependsOnly}
 use Rattle.cb_boole.proofs.Only.{solved_alike, both_drops}
 use Rattle.cb_boole.proofs.One.{mended_off}
 use Rattle.cb_solution.specs.Solution.{IsFalling, IsSolution}
-use Rattle.cb_solution.proofs.Solved.{listed-cases, image-listed, at-some, cases-image}
+use Rattle.cb_solution.proofs.Solved.{listed-cases, image-listed, at-some}
 
 -- what is 1 with both bits at a level doesn't depend on it
 both-free : (l : ℕ) (f : Function) → DependsOnly (λ k. k ≡ l → ⊥) (both l f)
 both-free l f = both_drops (λ k. k ≡ l → ⊥) l f (λ p q h. ap f (fun_ext (λ k. h k (cases_eq k l))))
 
 -- the solution's bit at a level doesn't depend on the greater levels that are eliminated
-solved-free : (ls : List ℕ) → IsFalling ls → (f : Function) (l k : ℕ) → l < k → IsListed ls k → (p : Bits) (b : Bool) → solved ls f (put k b p) l ≡ solved ls f p l
+pub solved-free : (ls : List ℕ) → IsFalling ls → (f : Function) (l k : ℕ) → l < k → IsListed ls k → (p : Bits) (b : Bool) → solved ls f (put k b p) l ≡ solved ls f p l
 unfolding solved
 solved-free [] falls f l k less there p b = absurd (true≢false (sym there))
 solved-free (m ∷ ms) falls f l k less there p b = mended_off m f (solved ms (both m f) (put k b p)) l off ∙ lower (listed-cases m k ms there) (λ later. solved-free ms falls.1 (both m f) l k less later p b) ∙ sym (mended_off m f (solved ms (both m f) p) l off)
@@ -49,13 +49,6 @@ solution-lower old new f levels images falls sol = record {
       ∙ sym (ap (λ (q : Bits). q l) (sol.at a))
       ∙ at-some new images a l m e;
 }
-
--- the greatest level has no image yet
-pub solution-fresh : (old new : List Triple) (f level : ℕ) (lower : List ℕ) (images : Images) → IsFalling (level ∷ lower) → IsSolution old new f lower images → image_of images level ≡ None
-solution-fresh old new f level lower images falls sol = elim (cases-image (image_of images level)) [
-  | inl h ↦ absurd (let w : level < level = falls.0 level (sol.within level (image-listed images level h.0 h.1)) in omega (arith, w))
-  | inr e ↦ e
-]
 
 -- ---- how many levels are replaced
 

@@ -1,27 +1,22 @@
 -- The solution, one level after another.
-use Rattle.std.proofs.Common.{◌≡◌, ◌⊎◌, inl, inr, ℕ, zero, suc, ◌+◌, ◌<◌, Bool, true, false, ◌||◌, List, [], ◌∷◌, ◌++◌, length, map, nat_eq, get_or, Option, Some, None, if◌then◌else◌, refl, sym, ap, subst, ◌∙◌, arith, length-append}
-use Rattle.std.proofs.lemmas.Bool.{cases_Bool, cases_eq, cases_lt, eq-eqb, eqb-true, ne_eqb, true≢false}
-use Rattle.std.proofs.lemmas.List.{map-append, get_or_append_left}
+use Rattle.std.proofs.Common.{◌≡◌, ◌⊎◌, inl, inr, ℕ, zero, suc, ◌+◌, ◌<◌, Bool, true, false, ◌||◌, List, [], ◌∷◌, ◌++◌, length, map, nat_eq, get_or, Option, Some, None, if◌then◌else◌, refl, sym, ap, ◌∙◌, arith, length-append}
+use Rattle.std.proofs.lemmas.Bool.{cases_Bool, cases_eq, cases_lt, eq-eqb, eqb-true}
+use Rattle.std.proofs.lemmas.List.{get_or_append_left}
 use Rattle.std.proofs.lemmas.List.Folds.{list_any-append}
 use Rattle.std.proofs.Math.Seq.{get_or-append_seam}
-use Rattle.std.proofs.Math.Path.{fun_ext}
 use Rattle.std.specs.List.{list_any}
 use Rattle.std.specs.List.Sorted.{IsStrictlyIncreasing}
 use Rattle.std.specs.Option.{option_map_or}
-use Rattle.cb_model.specs.Bits.{Bits, put, xor}
+use Rattle.cb_model.specs.Bits.{Bits, put}
 use Rattle.cb_dd.specs.declared.Triple.{Triple}
 use Rattle.cb_dd.specs.declared.Node.{Node}
-use Rattle.cb_dd.specs.Diagram.{Store, IsDiagram, IsNode, function_of}
+use Rattle.cb_dd.specs.Diagram.{IsDiagram, IsNode, function_of}
 use Rattle.cb_dd.proofs.Diagrams.{function_of-one, kind_of, bottom, top, inner, node-within, function_of-lo, function_of-hi}
-use Rattle.cb_ops.specs.Ops.{Grows, StandsFor, DependsOn, Agree}
+use Rattle.cb_ops.specs.Ops.{StandsFor, DependsOn, Agree}
 use Rattle.cb_ops.specs.Support.{IsListed}
 use Rattle.cb_ops.specs.Substitute.{Images, AreNodes, substituted, image_of}
-use Rattle.cb_ops.proofs.Ite.{grown-function, Grows-then, put-same, put-other}
 use Rattle.cb_ops.proofs.Gather.{agree-at}
-use Rattle.cb_ops.proofs.Substitute.{image-node, grown-nodes}
-use Rattle.cb_boole.specs.Elimination.{Function, both, mended, rest, solved, DependsOnly}
-use Rattle.cb_boole.proofs.Only.{solved_alike}
-use Rattle.cb_solution.specs.Solution.{IsFalling, IsImage, IsSolution, ImagesWithin}
+use Rattle.cb_boole.specs.Elimination.{Function, DependsOnly}
 
 -- ---- lists of levels
 
@@ -51,7 +46,7 @@ listed-at [] k h = absurd (omega arith)
 listed-at (x ∷ xs) zero h = listed-here x xs
 listed-at (x ∷ xs) (suc k) h = listed-there x (get_or xs k 0) xs (listed-at xs k (omega arith))
 
-listed-append : (xs ys : List ℕ) (k : ℕ) → IsListed (xs ++ ys) k → IsListed xs k ⊎ IsListed ys k
+pub listed-append : (xs ys : List ℕ) (k : ℕ) → IsListed (xs ++ ys) k → IsListed xs k ⊎ IsListed ys k
 listed-append xs ys k h = elim (cases_Bool (list_any (nat_eq k) xs)) [
   | inl there ↦ inl there
   | inr not_there ↦ inr (sym (ap (λ b. b || list_any (nat_eq k) ys) not_there) ∙ sym (list_any-append (nat_eq k) xs ys) ∙ h)
@@ -73,7 +68,7 @@ rising-more xs l rise below k h = elim (cases_lt (k + 1) (length xs)) [
       omega arith
 ]
 
-agree-from : (ks : List ℕ) (p q : Bits) → ((l : ℕ) → IsListed ks l → p l ≡ q l) → Agree ks p q
+pub agree-from : (ks : List ℕ) (p q : Bits) → ((l : ℕ) → IsListed ks l → p l ≡ q l) → Agree ks p q
 agree-from [] p q h = tt
 agree-from (k ∷ ks) p q h = (h k (listed-here k ks), agree-from ks p q (λ l there. h l (listed-there k l ks there)))
 
@@ -125,7 +120,7 @@ at-none ts list a l e = ap (λ o. option_map_or (λ n. function_of ts n.0 a) o (
 
 -- ---- one level more
 
-image-first : (xs : Images) (l : ℕ) (n : Node) (k : ℕ) (m : Node) → image_of xs k ≡ Some m → image_of (xs ++ (l, n) ∷ []) k ≡ Some m
+pub image-first : (xs : Images) (l : ℕ) (n : Node) (k : ℕ) (m : Node) → image_of xs k ≡ Some m → image_of (xs ++ (l, n) ∷ []) k ≡ Some m
 image-first [] l n k m e = absurd (let d : None ≡ Some m = e in cc)
 image-first (x ∷ xs) l n k m e = elim (cases_Bool (nat_eq k x.0)) [
   | inl same ↦
@@ -135,7 +130,7 @@ image-first (x ∷ xs) l n k m e = elim (cases_Bool (nat_eq k x.0)) [
       ap (λ b. if b then Some x.1 else image_of (xs ++ (l, n) ∷ []) k) other ∙ image-first xs l n k m (sym (ap (λ b. if b then Some x.1 else image_of xs k) other) ∙ e)
 ]
 
-image-last : (xs : Images) (l : ℕ) (n : Node) (k : ℕ) → image_of xs k ≡ None → image_of (xs ++ (l, n) ∷ []) k ≡ (if nat_eq k l then Some n else None)
+pub image-last : (xs : Images) (l : ℕ) (n : Node) (k : ℕ) → image_of xs k ≡ None → image_of (xs ++ (l, n) ∷ []) k ≡ (if nat_eq k l then Some n else None)
 image-last [] l n k e = refl
 image-last (x ∷ xs) l n k e = elim (cases_Bool (nat_eq k x.0)) [
   | inl same ↦ absurd (let d : Some x.1 ≡ None = sym (ap (λ b. if b then Some x.1 else image_of xs k) same) ∙ e in cc)
@@ -151,70 +146,6 @@ image-listed (x ∷ xs) k m e = elim (cases_Bool (nat_eq k x.0)) [
   | inr other ↦ listed-there x.0 k (map (λ i. i.0) xs) (image-listed xs k m (sym (ap (λ b. if b then Some x.1 else image_of xs k) other) ∙ e))
 ]
 
-nodes-more : (ts : List Triple) (xs : Images) (l : ℕ) (n : Node) → AreNodes ts xs → IsNode ts n.0 → AreNodes ts (xs ++ (l, n) ∷ [])
+pub nodes-more : (ts : List Triple) (xs : Images) (l : ℕ) (n : Node) → AreNodes ts xs → IsNode ts n.0 → AreNodes ts (xs ++ (l, n) ∷ [])
 nodes-more ts [] l n h w = (w, tt)
 nodes-more ts (x ∷ xs) l n h w = (h.0, nodes-more ts xs l n h.1 w)
-
-module _ (s t u v : Store) (st : Grows s t) (tu : Grows t u) (uv : Grows u v) (f left level : ℕ) (lower : List ℕ) (wf : IsNode s.triples f) (wl : IsNode t.triples left)
-    (is_left : StandsFor t.triples left (both level (function_of s.triples f))) where
-  left-function : function_of t.triples left ≡ both level (function_of s.triples f)
-  left-function = fun_ext (λ p. is_left.at p)
-
-  module _ (falls : IsFalling (level ∷ lower)) (images : Images) (found : IsSolution t.triples u.triples left lower images) where
-    -- the level has no image yet
-    fresh : image_of images level ≡ None
-    fresh = elim (cases-image (image_of images level)) [
-      | inl h ↦ absurd (let w : level < level = falls.0 level (found.within level (image-listed images level h.0 h.1)) in omega arith)
-      | inr e ↦ e
-    ]
-
-    module _ (node : Node) (wn : IsNode v.triples node.0) (is_node : IsImage u.triples v.triples f level images node.0) where
-      image-value : (p : Bits) → function_of v.triples node.0 p ≡ xor (function_of s.triples f (substituted u.triples images p)) (substituted u.triples images p level)
-      image-value p = is_node.at p ∙ ap (λ b. xor b (substituted u.triples images p level)) (grown-function s u (Grows-then s t u st tu) f wf (substituted u.triples images p))
-
-      put-in : (p : Bits) (k : ℕ) → (k ≡ level) ⊎ (k ≡ level → ⊥) →
-          substituted v.triples (images ++ (level, node) ∷ []) p k ≡ put level (xor (function_of s.triples f (substituted u.triples images p)) (substituted u.triples images p level)) (substituted u.triples images p) k
-      put-in p k (inl same) =
-          at-some v.triples (images ++ (level, node) ∷ []) p k node
-          (image-last images level node k (ap (image_of images) same ∙ fresh) ∙ ap (λ b. if b then Some node else None) (eq-eqb k level same))
-          ∙ image-value p
-          ∙ sym (put-same (substituted u.triples images p) level k (xor (function_of s.triples f (substituted u.triples images p)) (substituted u.triples images p level)) same)
-      put-in p k (inr other) = elim (cases-image (image_of images k)) [
-        | inl h ↦
-            at-some v.triples (images ++ (level, node) ∷ []) p k h.0 (image-first images level node k h.0 h.1)
-            ∙ grown-function u v uv h.0.0 (image-node u.triples images k h.0 found.nodes h.1) p
-            ∙ sym (at-some u.triples images p k h.0 h.1)
-            ∙ sym (put-other (substituted u.triples images p) level (xor (function_of s.triples f (substituted u.triples images p)) (substituted u.triples images p level)) k other)
-        | inr e ↦
-            at-none v.triples (images ++ (level, node) ∷ []) p k (image-last images level node k e ∙ ap (λ b. if b then Some node else None) (ne_eqb k level other))
-            ∙ sym (at-none u.triples images p k e)
-            ∙ sym (put-other (substituted u.triples images p) level (xor (function_of s.triples f (substituted u.triples images p)) (substituted u.triples images p level)) k other)
-      ]
-
-      pub solution-more : IsSolution s.triples v.triples f (level ∷ lower) (images ++ (level, node) ∷ [])
-      unfolding rest solved mended
-      solution-more = record {
-        rise = subst IsStrictlyIncreasing (sym (map-append (λ i. i.0) images ((level, node) ∷ [])))
-            (rising-more (map (λ i. i.0) images) level found.rise (λ k there. falls.0 k (found.within k there)));
-        within = λ l there. within l (listed-append (map (λ i. i.0) images) (level ∷ []) l (subst (λ xs. IsListed xs l) (map-append (λ i. i.0) images ((level, node) ∷ [])) there));
-        nodes = nodes-more v.triples images level node (grown-nodes u v uv images found.nodes) wn;
-        at = λ p.
-            fun_ext (λ k. put-in p k (cases_eq k level))
-            ∙ ap (λ (q : Bits). put level (xor (function_of s.triples f q) (q level)) q) (found.at p ∙ ap (λ g. solved lower g p) left-function);
-        none_left = λ p. ap (λ g. rest lower g p) (sym left-function) ∙ found.none_left p;
-      }
-        where
-          within : (l : ℕ) → IsListed (map (λ i. i.0) images) l ⊎ IsListed (level ∷ []) l → IsListed (level ∷ lower) l
-          within l (inl there) = listed-there level l lower (found.within l there)
-          within l (inr here) = elim (listed-cases level l [] here) [
-            | inl same ↦ subst (λ k. IsListed (level ∷ lower) k) (sym same) (listed-here level lower)
-            | inr none ↦ absurd (true≢false (sym none))
-          ]
-
--- the images depend on no other levels than the equation
-pub solution-within : (old new : List Triple) (f : ℕ) (levels : List ℕ) (images : Images) → IsSolution old new f levels images → (ls : List ℕ) → DependsOn old f ls → ((l : ℕ) → IsListed levels l → IsListed ls l) → ImagesWithin new images ls
-solution-within old new f levels images sol ls d all = record {
-  each = λ l m e. only-into new m.0 ls (λ p. solved levels (function_of old f) p l)
-      (record { at = λ p. sym (at-some new images p l m e) ∙ ap (λ (q : Bits). q l) (sol.at p) })
-      (λ p q h. solved_alike (IsListed ls) levels (function_of old f) (only-from old f ls d) p q h l (all l (sol.within l (image-listed images l m e))));
-}

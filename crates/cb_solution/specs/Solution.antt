@@ -62,11 +62,6 @@ pub record SolutionRoom (f : ℕ) (levels : List ℕ) (old new : Store) : Type 0
 pub record RestsRoom (f : ℕ) (levels : List ℕ) (old new : Store) : Type 0 where
   pub most : (ls : List ℕ) → DependsOn old.triples f ls → length new.triples ≤ length old.triples + length levels * (3 * 2 ^ length ls)
 
--- nodes that the images add at most, where f depends on the levels of the list alone, and those eliminated are among them
-pub record ImagesRoom (f : ℕ) (levels : List ℕ) (old new : Store) : Type 0 where
-  pub most : (ls : List ℕ) → DependsOn old.triples f ls → ((l : ℕ) → IsListed levels l → IsListed ls l) →
-      length new.triples ≤ length old.triples + length levels * (2 * 2 ^ length ls + 2 ^ length ls * 2 ^ length ls)
-
 -- the number of refusals for nodes after an answer
 abbrev pub has_refused : {A : Type 0} → ℕ → Result A Stop → ℕ
 has_refused fulls (Ok x) = fulls

@@ -7,14 +7,17 @@ ghost use Rattle.cb_dd.specs.Diagram.{Store, IsDiagram, IsNode, function_of, ful
 ghost use Rattle.cb_ops.specs.Ops.{Grows, StandsFor, Room};
 ghost use Rattle.cb_ops.specs.Substitute.{AreNodes, image_of};
 ghost use Rattle.cb_ops.specs.Composed.{AreLower};
-ghost use Rattle.cb_boole.specs.Elimination.{both, rest};
-ghost use Rattle.cb_solution.specs.Solution.{AreRests, IsFalling, IsImage, IsSolution, HasRest, ImageRoom, ImagesRoom, RestsRoom, SolutionRoom, has_refused};
+ghost use Rattle.cb_boole.specs.Elimination.{Function, both, rest};
+ghost use Rattle.cb_solution.specs.Solution.{AreRests, IsFalling, IsImage, IsSolution, HasRest, ImageRoom, RestsRoom, SolutionRoom, has_refused};
+ghost use Rattle.cb_solution.specs.Parts.{AreParts, AreStages, Solves, StagesRoom};
 
 mod pairs;
+mod parts;
 
 use cb_dd::{Node, Stop};
 use cb_ops::Ops;
 pub use pairs::differ;
+pub use parts::solution_of_parts;
 use std::alloc::Global;
 
 /// The node that is 1 where the node is with both bits at the level.
@@ -76,27 +79,28 @@ fn rests(alloc: Global, ops: &mut Ops, f: Node, levels: &[u32]) -> Result<(Vec<N
 }
 
 // The images of the levels that were eliminated, the least level first, where nothing is left in the end.
-fn images(
+pub(crate) fn images(
     alloc: Global,
     ops: &mut Ops,
-    f: Node,
     levels: &[u32],
     nodes: &[Node],
 ) -> Result<Vec<(u32, Node)>, Stop>
-    requires f { IsNode ops.old.triples f.0 }
-    requires rests { AreRests ops.old.triples f.0 levels.now nodes.now 0 }
+    requires nodes { AreParts ops.old.triples nodes.now }
+    requires stages { (f : Function) × AreStages ops.old.triples f levels.now nodes.now }
     requires fall { IsFalling levels.now }
-    ensures solved { IfOk result (λ images. IsSolution ops.old.triples ops.new.triples f.0 levels.now images.items) }
+    ensures solved { IfOk result (λ images. (f : Function) → AreStages ops.old.triples f levels.now nodes.now → Solves ops.new.triples f levels.now images.items) }
     ensures grows { Grows ops.old ops.new }
-    ensures room { ImagesRoom f.0 levels.now ops.old ops.new }
+    ensures room { StagesRoom nodes.now levels.now ops.old ops.new }
     ensures full { result ≡ Err Stop.Nodes → length ops.new.triples ≡ ops.new.budget }
     ensures fulls { ops.new.fulls ≡ has_refused ops.old.fulls result }
 {
     let mut images = Vec::new(alloc);
     for k in (0..nodes.len()).rev() {
-        let level = levels[k];
-        let node = image(ops, nodes[k], level, &images)?;
-        images.push((level, node)).map_err(|_| Stop::Memory)?;
+        if nodes[k].0 != 0 {
+            let level = levels[k];
+            let node = image(ops, nodes[k], level, &images)?;
+            images.push((level, node)).map_err(|_| Stop::Memory)?;
+        }
     }
     Ok(images)
 }
@@ -124,6 +128,6 @@ pub fn solution(
         let _count = ops.count();
         return Ok(None);
     }
-    let images = images(alloc, ops, f, levels, &nodes)?;
+    let images = images(alloc, ops, levels, &nodes)?;
     Ok(Some(images))
 }
