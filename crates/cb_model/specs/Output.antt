@@ -1,6 +1,7 @@
 -- What a run of the program may print, and its outcome.
 use Rattle.std.specs.Prelude.{◌≡◌, ℕ, suc, ◌+◌, ◌*◌, ◌<◌, ◌≤◌, Bool, true, false, ◌&&◌, ◌||◌, ◌==◌, if◌then◌else◌, ◌⊎◌, List, [], ◌∷◌, ◌++◌, map, length, take, drop, get_or, Option, Some, None, codes, bytes_eq, decimal, sum_by, find, MatchBool, Contains}
 use Rattle.std.specs.List.{list_any}
+use Rattle.cb_model.specs.declared.Circuit.{Circuit}
 use Rattle.cb_model.specs.declared.Outcome.{Outcome}
 use Rattle.cb_model.specs.declared.Outcome.TheVariants as outcome
 use Rattle.cb_model.specs.Text.{Text, name_text, lines_text, IsPrefix}
@@ -19,6 +20,7 @@ use Rattle.cb_model.specs.Program.{Program}
 use Rattle.cb_model.specs.Derivation.{Query, Branch, Note, End, Whole as Ended, Stopped as Cut, Resolutions, Variables, Equations, Entry, Adds, Moves, stop_of, SoFar, Plain, printed_of, stretch_after}
 use Rattle.cb_model.specs.Line.{Names, IsLine}
 use Rattle.cb_model.specs.Adder.{adder_text}
+use Rattle.cb_model.specs.Sound.{HasOneValuation}
 use Rattle.cb_model.specs.Room.{BelowRoom, room_v, flat_pins, instance_pins, expr_size, greatest}
 
 -- ---- refusals
@@ -140,23 +142,30 @@ module_named c x = find (λ m. bytes_eq m.name x) c.modules
 abbrev pub spec_named : Circuits → Text → Option Spec
 spec_named c x = find (λ s. bytes_eq s.name x) c.specs
 
--- `verify`, where the module and its specification were looked up
+-- each input has exactly one consistent valuation
+abbrev pub IsDetermined : Circuit → Type 0
+IsDetermined c = (input : List Bool) → length input ≡ c.inputs → HasOneValuation c input
+
+-- `verify`, where the module and its specification were looked up; that the flattened module has exactly one consistent
+-- valuation for each input says that none is verified for want of one
 abbrev pub VerifySays : Circuits → Text → Nodes → Option Module → Option Spec → Says
 VerifySays c name nodes None s = Refuses no_module
 VerifySays c name nodes (Some m) None = Refuses (refused 17 [] (codes "no specification"))
 VerifySays c name nodes (Some m) (Some s) = λ lines answer.
     MatchBool (length m.inputs == length s.inputs && length m.outputs == length s.exprs)
-    (Compared (name_text name) (codes "verified ") m.inputs (circuit_of (flat_named c.flats name)) (BySpec s.exprs)
+    (IsDetermined (circuit_of (flat_named c.flats name)) ×
+    Compared (name_text name) (codes "verified ") m.inputs (circuit_of (flat_named c.flats name)) (BySpec s.exprs)
     (BelowNodes nodes (room_of c (name ∷ []) (sum_by expr_size s.exprs))) lines answer)
     (Refuses (refused 18 [] (codes "ports differ")) lines answer)
 
--- `same`
+-- `same`, where the two modules were looked up; each has exactly one consistent valuation for each input
 abbrev pub SameSays : Circuits → Text → Text → Nodes → Option Module → Option Module → Says
 SameSays c one two nodes None n = Refuses no_module
 SameSays c one two nodes (Some m) None = Refuses no_module
 SameSays c one two nodes (Some m) (Some n) = λ lines answer.
     MatchBool (length m.inputs == length n.inputs && length m.outputs == length n.outputs)
-    (Compared (name_text one ++ codes " " ++ name_text two) (codes "same ") m.inputs (circuit_of (flat_named c.flats one))
+    (IsDetermined (circuit_of (flat_named c.flats one)) × IsDetermined (circuit_of (flat_named c.flats two)) ×
+    Compared (name_text one ++ codes " " ++ name_text two) (codes "same ") m.inputs (circuit_of (flat_named c.flats one))
     (Outputs (circuit_of (flat_named c.flats two))) (BelowNodes nodes (room_of c (one ∷ two ∷ []) 0)) lines answer)
     (Refuses (refused 18 [] (codes "ports differ")) lines answer)
 

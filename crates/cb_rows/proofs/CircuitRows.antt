@@ -5,6 +5,7 @@ use Rattle.cb_model.specs.declared.Circuit.{Circuit}
 use Rattle.cb_model.specs.declared.Outcome.TheVariants as outcome
 use Rattle.cb_model.specs.Bits.{xor, weight}
 use Rattle.cb_model.specs.Circuits.{Consistent, Outputs, read_all, BySpec, spec_values, Agrees, LeastDifference}
+use Rattle.cb_model.specs.Output.{IsDetermined}
 use Rattle.cb_model.specs.Verdicts.{Compared, agrees, differs}
 use Rattle.cb_laws.proofs.Values.{expr_values}
 use Rattle.cb_rows.specs.CircuitExamples.{A, B, half_adder, full_adder, half_with, circuit_at, half_spec, not_half, CircuitExamples}
@@ -61,6 +62,26 @@ half_agrees [] xs ys e o w = absurd (cc)
 half_agrees (x ∷ []) xs ys e o w = absurd (cc)
 half_agrees (x ∷ y ∷ []) xs ys e o w = o.outputs ∙ read_half x y o.v o.consistent ∙ sym (wanted_half x y) ∙ sym w
 half_agrees (x ∷ y ∷ z ∷ zs) xs ys e o w = absurd (omega arith)
+
+-- each input has exactly one consistent valuation
+half_only : (x y : Bool) (w : List Bool) → Consistent half (x ∷ y ∷ []) w → w ≡ x ∷ y ∷ sum' x y ∷ carry x y ∷ []
+half_only x y [] k = let n = k.every_net in absurd (omega arith)
+half_only x y (a ∷ []) k = let n = k.every_net in absurd (omega arith)
+half_only x y (a ∷ b ∷ []) k = let n = k.every_net in absurd (omega arith)
+half_only x y (a ∷ b ∷ s ∷ []) k = let n = k.every_net in absurd (omega arith)
+half_only x y (a ∷ b ∷ s ∷ c ∷ []) k =
+    let h : a ≡ x = ap (bit_at 0) k.inputs in
+    let g : b ≡ y = ap (bit_at 1) k.inputs in
+    let p : s ≡ sum' a b = k.gates.0 in
+    let q : c ≡ carry a b = k.gates.1.0 in
+    ap (λ z. a ∷ b ∷ z ∷ c ∷ []) p ∙ ap (λ z. a ∷ b ∷ sum' a b ∷ z ∷ []) q ∙ ap (λ z. z ∷ b ∷ sum' z b ∷ carry z b ∷ []) h ∙ ap (λ z. x ∷ z ∷ sum' x z ∷ carry x z ∷ []) g
+half_only x y (a ∷ b ∷ s ∷ c ∷ d ∷ ws) k = let n = k.every_net in absurd (omega arith)
+
+pub half_determined : IsDetermined half
+half_determined [] e = absurd (cc)
+half_determined (x ∷ []) e = absurd (cc)
+half_determined (x ∷ y ∷ []) e = record { v = x ∷ y ∷ sum' x y ∷ carry x y ∷ []; consistent = record { every_net = refl; inputs = refl; gates = (refl, (refl, tt)) }; only = half_only x y }
+half_determined (x ∷ y ∷ z ∷ zs) e = absurd (omega arith)
 
 -- below the second input the two agree
 below_one : (other us vs : List Bool) → length other ≡ 2 → weight other < 1 → Outputs half_or other us → BySpec half_spec other vs → us ≡ vs

@@ -7,11 +7,11 @@ use Rattle.cb_model.specs.declared.Circuit.{Circuit}
 use Rattle.cb_model.specs.Text.{Text, lines_text}
 use Rattle.cb_model.specs.Tokens.{Token, name_of, Lexes, ended, layout, token}
 use Rattle.cb_model.specs.Grammar.{Variable, Name, Last, one, Plus, Closed, Reads, Chain, a_prim, a_not, a_variable, a_call, a_list, an_atom, a_compound, exprs, no_comma, a_comma, ReadsClause, fact, ReadsAll, no_more, one_more, nestings, IsReading, whole, Whole}
-use Rattle.cb_model.specs.Circuits.{flat, circuit_of, BySpec, spec_values, Agrees}
+use Rattle.cb_model.specs.Circuits.{Consistent, flat, circuit_of, BySpec, spec_values, Agrees}
 use Rattle.cb_model.specs.Verdicts.{agrees}
 use Rattle.cb_model.specs.Facts.{Feeds, feeds, leads_on, HasCycle, no_facts, a_fact, a_module, a_spec}
 use Rattle.cb_model.specs.Loading as load
-use Rattle.cb_model.specs.Output.{IsLoaded, Output}
+use Rattle.cb_model.specs.Output.{IsDetermined, IsLoaded, Output}
 use Rattle.cb_laws.proofs.Values.{expr_values}
 use Rattle.cb_rows.specs.TextExamples.{token_at}
 use Rattle.cb_rows.specs.OutputExamples.{not_file, not_clauses, not_module, not_spec, not_loaded}
@@ -152,5 +152,19 @@ not_agrees (x ∷ []) xs ys e o w =
     o.outputs ∙ ap (λ y. y ∷ []) h ∙ sym (wanted x) ∙ sym w
 not_agrees (x ∷ y ∷ zs) xs ys e o w = absurd (omega arith)
 
+only_value : (x : Bool) (w : List Bool) → Consistent circuit (x ∷ []) w → w ≡ x ∷ not x ∷ []
+only_value x [] k = let n = k.every_net in absurd (omega arith)
+only_value x (a ∷ []) k = let n = k.every_net in absurd (omega arith)
+only_value x (a ∷ b ∷ []) k =
+    let h : a ≡ x = ap (λ l. get_or l 0 false) k.inputs in
+    let g : b ≡ not a = k.gates.0 in
+    ap (λ y. y ∷ b ∷ []) h ∙ ap (λ y. x ∷ y ∷ []) (g ∙ ap not h)
+only_value x (a ∷ b ∷ c ∷ w) k = let n = k.every_net in absurd (omega arith)
+
+not_determined : IsDetermined circuit
+not_determined [] e = absurd (cc)
+not_determined (x ∷ []) e = record { v = x ∷ not x ∷ []; consistent = record { every_net = refl; inputs = refl; gates = (refl, tt) }; only = only_value x }
+not_determined (x ∷ y ∷ zs) e = absurd (omega arith)
+
 pub verified : Output (codes "verify" ∷ codes "F" ∷ codes "h" ∷ codes "max" ∷ []) not_file [] (lines_text (codes "verified h" ∷ [])) outcome.Done
-verified = record { lines = codes "verified h" ∷ []; says = inr (not_loaded, (is_loaded, agrees not_agrees refl)); is = refl }
+verified = record { lines = codes "verified h" ∷ []; says = inr (not_loaded, (is_loaded, (not_determined, agrees not_agrees refl))); is = refl }

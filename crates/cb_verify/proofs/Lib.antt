@@ -11,3 +11,7 @@ pub mod Halves
 pub mod Spread
 pub mod Rows
 pub mod Deciding
+pub mod Named
+pub mod Answering
+pub mod Rooms
+pub mod Shaped

@@ -4,3 +4,4 @@ pub mod Order
 pub mod Least
 pub mod Wanted
 pub mod Places
+pub mod Modules

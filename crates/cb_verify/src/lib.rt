@@ -26,11 +26,14 @@ mod comparison;
 mod differences;
 mod expressions;
 mod least;
+mod modules;
 mod nodes;
 mod ordered;
 mod places;
 mod sequence;
 mod unfolding;
+
+pub use modules::{VerifyError, same, unfold, verify};
 
 /// The verdict of a comparison.
 #[derive(Debug, Drop)]

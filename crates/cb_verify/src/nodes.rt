@@ -1,6 +1,7 @@
 ghost use Rattle.std.specs.Prelude.{◌≡◌, ◌-◌, ◌<◌, Bool, List, IsTrue, IfOk, [], ◌∷◌, length, true, false};
 ghost use Rattle.cb_model.specs.Bits.{Bits};
 ghost use Rattle.cb_model.specs.Circuits.{pins_of, gate_value};
+ghost use Rattle.cb_model.specs.Outside.{Rose};
 ghost use Rattle.cb_dd.specs.declared.Triple.{Triple};
 ghost use Rattle.cb_dd.specs.Diagram.{IsNode, function_of};
 ghost use Rattle.cb_ops.specs.Ops.{Grows};
@@ -27,6 +28,7 @@ pub fn apply(ops: &mut Ops, operator: Operator, f: Node, g: Node) -> Result<Node
     ensures grows { Grows ops.old ops.new }
     ensures room { Adds ops.old ops.new 1 (f ∷ g ∷ []) }
     ensures full { result ≡ Err Stop.Nodes → length ops.new.triples ≡ ops.new.budget }
+    ensures rose { result ≡ Err Stop.Nodes → Rose ops.old.fulls ops.new.fulls }
 {
     match operator {
         Operator::And => ops.and(f, g),
@@ -56,6 +58,7 @@ pub fn chain(ops: &mut Ops, operator: Operator, nodes: &[Node]) -> Result<Node, 
     ensures grows { Grows ops.old ops.new }
     ensures room { Adds ops.old ops.new (length nodes.now - 1) nodes.now }
     ensures full { result ≡ Err Stop.Nodes → length ops.new.triples ≡ ops.new.budget }
+    ensures rose { result ≡ Err Stop.Nodes → Rose ops.old.fulls ops.new.fulls }
 {
     let Some((first, rest)) = nodes.split_first() else {
         return Ok(none(operator));
@@ -77,6 +80,7 @@ pub fn gate(ops: &mut Ops, kind: GateKind, pins: &[Node]) -> Result<Node, Stop>
     ensures grows { Grows ops.old ops.new }
     ensures room { Adds ops.old ops.new (length pins.now) pins.now }
     ensures full { result ≡ Err Stop.Nodes → length ops.new.triples ≡ ops.new.budget }
+    ensures rose { result ≡ Err Stop.Nodes → Rose ops.old.fulls ops.new.fulls }
 {
     match kind {
         GateKind::Zero => Ok(Node::ZERO),

@@ -1,6 +1,7 @@
 ghost use Rattle.std.specs.Prelude.{ℕ, ◌++◌, ◌+◌, ◌*◌, ◌^◌, ◌<◌, ◌≤◌, ◌≡◌, ◌≢◌, true, replicate, Err, Bool, List, IfOk, map, length};
 ghost use Rattle.cb_model.specs.Bits.{Bits, Each};
 ghost use Rattle.cb_model.specs.Circuits.{pins_of, gate_value, Consistent};
+ghost use Rattle.cb_model.specs.Outside.{Rose};
 ghost use Rattle.cb_dd.specs.Diagram.{IsNode, function_of};
 ghost use Rattle.cb_ops.specs.Ops.{Grows};
 ghost use Rattle.cb_verify.specs.Nodes.{Adds, AreNodes, DependOn, node_at, node_bits};
@@ -42,6 +43,7 @@ fn gate_node(alloc: Global, ops: &mut Ops, part: &Gate, nodes: &[Node]) -> Resul
     ensures grows { Grows ops.old ops.new }
     ensures room { Adds ops.old ops.new (length part.now.ins) (map (node_at nodes.now) part.now.ins) }
     ensures full { result ≡ Err Stop.Nodes → length ops.new.triples ≡ ops.new.budget }
+    ensures rose { result ≡ Err Stop.Nodes → Rose ops.old.fulls ops.new.fulls }
 {
     let pins = nodes_at(alloc, nodes, part.ins.as_slice())?;
     let node = gate(ops, part.kind, &pins)?;
@@ -65,6 +67,7 @@ pub fn ordered_nodes(
     ensures grows { Grows ops.old ops.new }
     ensures room { (ls : List ℕ) → DependOn ops.old.triples inputs.now ls → length ops.new.triples ≤ length ops.old.triples + pins_in circuit.now order.now * (2 * 2 ^ length ls) }
     ensures full { result ≡ Err Stop.Nodes → length ops.new.triples ≡ ops.new.budget }
+    ensures rose { result ≡ Err Stop.Nodes → Rose ops.old.fulls ops.new.fulls }
 {
     let mut nodes = with_room(alloc, inputs, circuit.gates.len())?;
     for k in order {

@@ -2,6 +2,7 @@ ghost use Rattle.std.specs.Prelude.{◌≡◌, Err, IfOk, length};
 ghost use Rattle.cb_model.specs.Bits.{Bits};
 ghost use Rattle.cb_model.specs.Circuits.{Flat, Outputs};
 ghost use Rattle.cb_model.specs.Room.{circuit_pins};
+ghost use Rattle.cb_model.specs.Outside.{Rose};
 ghost use Rattle.cb_ops.specs.Ops.{Grows};
 ghost use Rattle.cb_verify.specs.Nodes.{Adds, AreNodes, node_bits};
 ghost use Rattle.cb_verify.specs.Order.{IsFlattened};
@@ -29,6 +30,7 @@ pub fn unfold_circuit(
     ensures grows { Grows ops.old ops.new }
     ensures room { Adds ops.old ops.new (circuit_pins circuit.now) inputs.now }
     ensures full { result ≡ Err Stop.Nodes → length ops.new.triples ≡ ops.new.budget }
+    ensures rose { result ≡ Err Stop.Nodes → Rose ops.old.fulls ops.new.fulls }
 {
     let Ok(order) = gate_order(alloc, circuit) else {
         return Err(Stop::Memory);
