@@ -8,6 +8,7 @@ pub mod Verdicts
 pub mod Evaluates
 pub mod Bridge
 pub mod Halves
+pub mod Over
 pub mod Spread
 pub mod Rows
 pub mod Deciding

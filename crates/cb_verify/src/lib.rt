@@ -29,6 +29,7 @@ mod least;
 mod modules;
 mod nodes;
 mod ordered;
+mod pins;
 mod places;
 mod sequence;
 mod unfolding;

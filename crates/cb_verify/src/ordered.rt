@@ -7,8 +7,7 @@ ghost use Rattle.cb_ops.specs.Ops.{Grows};
 ghost use Rattle.cb_verify.specs.Nodes.{Adds, AreNodes, DependOn, node_at, node_bits};
 ghost use Rattle.cb_verify.specs.Order.{CanEvaluate, pins_in};
 
-use crate::circuits::nodes_at;
-use crate::nodes::gate;
+use crate::pins::gate_over;
 use cb_dd::{Node, Stop};
 use cb_model::{Circuit, Gate};
 use cb_ops::Ops;
@@ -34,7 +33,7 @@ fn with_room(alloc: Global, inputs: &[Node], gates: usize) -> Result<Vec<Node>, 
 }
 
 /// The node of a gate over the nodes of the nets.
-fn gate_node(alloc: Global, ops: &mut Ops, part: &Gate, nodes: &[Node]) -> Result<Node, Stop>
+fn gate_node(ops: &mut Ops, part: &Gate, nodes: &[Node]) -> Result<Node, Stop>
     requires nodes { AreNodes ops.old.triples nodes.now }
     requires within { Each (λ k. k < length nodes.now) part.now.ins }
     requires number { pins_of part.now.kind (length part.now.ins) ≡ true }
@@ -45,9 +44,7 @@ fn gate_node(alloc: Global, ops: &mut Ops, part: &Gate, nodes: &[Node]) -> Resul
     ensures full { result ≡ Err Stop.Nodes → length ops.new.triples ≡ ops.new.budget }
     ensures rose { result ≡ Err Stop.Nodes → Rose ops.old.fulls ops.new.fulls }
 {
-    let pins = nodes_at(alloc, nodes, part.ins.as_slice())?;
-    let node = gate(ops, part.kind, &pins)?;
-    Ok(node)
+    gate_over(ops, part.kind, nodes, part.ins.as_slice())
 }
 
 /// The nodes of all nets of a circuit over those of its inputs, gate by gate in an order in which each gate comes
@@ -71,7 +68,7 @@ pub fn ordered_nodes(
 {
     let mut nodes = with_room(alloc, inputs, circuit.gates.len())?;
     for k in order {
-        let node = gate_node(alloc, ops, &circuit.gates.as_slice()[*k as usize], &nodes)?;
+        let node = gate_node(ops, &circuit.gates.as_slice()[*k as usize], &nodes)?;
         let net = circuit.inputs as usize + *k as usize;
         nodes[net] = node;
     }
