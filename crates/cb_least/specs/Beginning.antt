@@ -55,11 +55,18 @@ pub record AreMarks (ts : List Triple) (root low : ℕ) (marks : List Bool) : Ty
   pub root_in : get_or marks root false ≡ true
   pub closed : (n level : ℕ) (lo hi : Node) → low < n → n ≤ root → get_or marks n false ≡ true → parts_of ts n ≡ Some (level, lo, hi) → (get_or marks lo.0 false ≡ true) × (get_or marks hi.0 false ≡ true)
 
+-- the next mark behind each place
+pub record AreNexts (marks : List Bool) (nexts : List ℕ) : Type 0 where
+  pub long : length nexts ≡ length marks
+  pub on : (k : ℕ) → k < length marks → k < get_or nexts k 0
+  pub skipped : (k j : ℕ) → k < length marks → k < j → j < get_or nexts k 0 → get_or marks j false ≡ false
+
 -- what a search goes over: the marked diagram of a node that isn't the constant 0, and the input of each level
-pub record IsSearch (ts : List Triple) (root : ℕ) (marks : List Bool) (order : List ℕ) : Type 0 where
+pub record IsSearch (ts : List Triple) (root : ℕ) (marks : List Bool) (nexts : List ℕ) (order : List ℕ) : Type 0 where
   pub node : IsNode ts root
   pub some : 1 ≤ root
   pub marked : AreMarks ts root 1 marks
+  pub next_marked : AreNexts marks nexts
   pub inverse : (levels : List ℕ) × IsInverse order levels
 
 -- these inputs have 1 at each assignment that begins with the bits at which node n is 1

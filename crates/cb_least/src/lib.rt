@@ -10,18 +10,19 @@ ghost use Rattle.cb_ops.specs.Ops.{DependsOn, IsLeastTrue};
 ghost use Rattle.cb_levels.specs.Inverse.{IsInverse};
 ghost use Rattle.cb_least.specs.Beginning.{AreFound, AreOnes, AreBits, IsSearch};
 
-use crate::marks::reached;
+use crate::marks::{nexts, reached};
 use crate::passes::{Prefix, ones_of_root, reach_of_root};
 use cb_dd::Node;
 use cb_ops::Ops;
 use std::alloc::{AllocError, Global};
 
-/// A diagram with the marks of its nodes, and the input of each level.
+/// A diagram with the marks of its nodes and the next mark behind each, and the input of each level.
 #[derive(Clone, Copy)]
 struct Search<'a> {
     ops: &'a Ops,
     root: Node,
     marks: &'a [bool],
+    nexts: &'a [usize],
     order: &'a [u32],
 }
 
@@ -42,7 +43,7 @@ impl Search<'_> {
     /// Whether the inputs from `next` to `upto` have 1 wherever the diagram is 1 and its input begins with the bits; it
     /// may answer no where they do.
     fn are_ones(&self, bits: &[bool], next: usize, upto: usize, counts: &mut [usize]) -> bool
-        requires search { IsSearch self.now.ops.now.triples self.now.root.0 self.now.marks.now self.now.order.now }
+        requires search { IsSearch self.now.ops.now.triples self.now.root.0 self.now.marks.now self.now.nexts.now self.now.order.now }
         requires bits { AreBits self.now.order.now bits.now next }
         requires from { next ≤ upto }
         requires upto { upto ≤ length self.now.order.now }
@@ -54,7 +55,9 @@ impl Search<'_> {
             bits,
             next,
         };
-        let count = ones_of_root(self.ops, self.root, self.marks, &prefix, upto, counts);
+        let count = ones_of_root(
+            self.ops, self.root, self.marks, self.nexts, &prefix, upto, counts,
+        );
         upto - next <= count
     }
 
@@ -66,7 +69,7 @@ impl Search<'_> {
         bits: &mut [bool],
         counts: &mut [usize],
     ) -> usize
-        requires search { IsSearch self.now.ops.now.triples self.now.root.0 self.now.marks.now self.now.order.now }
+        requires search { IsSearch self.now.ops.now.triples self.now.root.0 self.now.marks.now self.now.nexts.now self.now.order.now }
         requires found { AreFound self.now.ops.now.triples self.now.order.now bits.old next self.now.root.0 }
         requires room { length counts.old ≡ self.now.root.0 + 1 }
         ensures found { AreFound self.now.ops.now.triples self.now.order.now bits.new result self.now.root.0 }
@@ -86,7 +89,7 @@ impl Search<'_> {
     /// Goes on over the inputs from `next` on that have 1 wherever the diagram is 1, by runs of twice the length after each
     /// other; answers the next input, and the length of the run that was too long.
     fn widen(&self, next: usize, bits: &mut [bool], counts: &mut [usize]) -> (usize, usize)
-        requires search { IsSearch self.now.ops.now.triples self.now.root.0 self.now.marks.now self.now.order.now }
+        requires search { IsSearch self.now.ops.now.triples self.now.root.0 self.now.marks.now self.now.nexts.now self.now.order.now }
         requires found { AreFound self.now.ops.now.triples self.now.order.now bits.old next self.now.root.0 }
         requires room { length counts.old ≡ self.now.root.0 + 1 }
         ensures found { AreFound self.now.ops.now.triples self.now.order.now bits.new result.0 self.now.root.0 }
@@ -108,7 +111,7 @@ impl Search<'_> {
     /// Goes on over the inputs from `next` on that have 1 wherever the diagram is 1, by runs of twice the length after each
     /// other, and then of half the length; answers the next input.
     fn ones_from(&self, next: usize, bits: &mut [bool], counts: &mut [usize]) -> usize
-        requires search { IsSearch self.now.ops.now.triples self.now.root.0 self.now.marks.now self.now.order.now }
+        requires search { IsSearch self.now.ops.now.triples self.now.root.0 self.now.marks.now self.now.nexts.now self.now.order.now }
         requires found { AreFound self.now.ops.now.triples self.now.order.now bits.old next self.now.root.0 }
         requires room { length counts.old ≡ self.now.root.0 + 1 }
         ensures found { AreFound self.now.ops.now.triples self.now.order.now bits.new result self.now.root.0 }
@@ -126,7 +129,7 @@ impl Search<'_> {
 
     /// Finds the bits of the least input at which the diagram is 1.
     fn find(&self, bits: &mut [bool], counts: &mut [usize])
-        requires search { IsSearch self.now.ops.now.triples self.now.root.0 self.now.marks.now self.now.order.now }
+        requires search { IsSearch self.now.ops.now.triples self.now.root.0 self.now.marks.now self.now.nexts.now self.now.order.now }
         requires found { AreFound self.now.ops.now.triples self.now.order.now bits.old 0 self.now.root.0 }
         requires room { length counts.old ≡ self.now.root.0 + 1 }
         ensures { (levels : List ℕ) → IsInverse self.now.order.now levels → DependsOn self.now.ops.now.triples self.now.root.0 levels → IsLeastTrue self.now.ops.now.triples self.now.root.0 levels bits.new }
@@ -138,7 +141,7 @@ impl Search<'_> {
                 bits,
                 next,
             };
-            let reach = reach_of_root(self.ops, self.root, self.marks, &prefix, counts);
+            let reach = reach_of_root(self.ops, self.root, self.marks, self.nexts, &prefix, counts);
             if reach > self.order.len() {
                 return;
             }
@@ -168,12 +171,14 @@ pub fn least_input(
         return Ok(None);
     }
     let marks = reached(alloc, ops, f)?;
+    let nexts = nexts(alloc, &marks)?;
     let mut counts = vec![in alloc; 0; f.0 + 1]?;
     let mut bits = vec![in alloc; false; order.len()]?;
     let search = Search {
         ops,
         root: f,
         marks: &marks,
+        nexts: &nexts,
         order,
     };
     search.find(&mut bits, &mut counts);

@@ -1,7 +1,7 @@
 ghost use Rattle.std.specs.Prelude.{◌≡◌, ℕ, ◌<◌, ◌≤◌, length, get_or, true, false, Some, IfOk};
 ghost use Rattle.cb_dd.specs.declared.Node.{Node};
 ghost use Rattle.cb_dd.specs.Diagram.{IsNode, parts_of};
-ghost use Rattle.cb_least.specs.Beginning.{AreMarks};
+ghost use Rattle.cb_least.specs.Beginning.{AreMarks, AreNexts};
 
 use cb_dd::Node;
 use cb_ops::Ops;
@@ -41,4 +41,21 @@ pub fn reached(alloc: Global, ops: &Ops, root: Node) -> Result<Vec<bool>, AllocE
         at -= 1;
     }
     Ok(marks)
+}
+
+/// For each node the next one that is marked, by their numbers; one more than the last where there is none.
+pub fn nexts(alloc: Global, marks: &[bool]) -> Result<Vec<usize>, AllocError>
+    ensures { IfOk result (λ v. AreNexts marks.now v.items) }
+{
+    let mut nexts = vec![in alloc; 0; marks.len()]?;
+    let mut next = marks.len();
+    let mut at = marks.len();
+    while at > 0 {
+        at -= 1;
+        nexts[at] = next;
+        if marks[at] {
+            next = at;
+        }
+    }
+    Ok(nexts)
 }

@@ -1,7 +1,7 @@
 ghost use Rattle.std.specs.Prelude.{◌≡◌, ℕ, ◌+◌, ◌-◌, ◌^◌, ◌<◌, ◌≤◌, length, get_or, Some};
 ghost use Rattle.cb_dd.specs.declared.Node.{Node};
 ghost use Rattle.cb_dd.specs.Diagram.{IsNode, parts_of};
-ghost use Rattle.cb_least.specs.Beginning.{AreBits, AreMarks, HasOnes, IsReach};
+ghost use Rattle.cb_least.specs.Beginning.{AreBits, AreMarks, AreNexts, HasOnes, IsReach};
 
 use cb_dd::Node;
 use cb_ops::Ops;
@@ -56,12 +56,14 @@ pub fn reach_of_root(
     ops: &Ops,
     root: Node,
     marks: &[bool],
+    nexts: &[usize],
     prefix: &Prefix<'_>,
     reaches: &mut [usize],
 ) -> usize
     requires node { IsNode ops.now.triples root.0 }
     requires some { 1 ≤ root.0 }
     requires marks { AreMarks ops.now.triples root.0 1 marks.now }
+    requires nexts { AreNexts marks.now nexts.now }
     requires bits { AreBits prefix.now.order.now prefix.now.bits.now prefix.now.next }
     requires room { length reaches.old ≡ root.0 + 1 }
     ensures { IsReach ops.now.triples prefix.now.order.now prefix.now.bits.now prefix.now.next root.0 result }
@@ -69,11 +71,13 @@ pub fn reach_of_root(
     let _count = ops.count();
     reaches[0] = 0;
     reaches[1] = prefix.order.len() + 1;
-    for at in 2..root.0 + 1 {
+    let mut at = 2;
+    while at <= root.0 {
         if marks[at] {
             let found = reach(ops, Node(at), prefix, reaches);
             reaches[at] = found;
         }
+        at = nexts[at];
     }
     reaches[root.0]
 }
@@ -112,6 +116,7 @@ pub fn ones_of_root(
     ops: &Ops,
     root: Node,
     marks: &[bool],
+    nexts: &[usize],
     prefix: &Prefix<'_>,
     upto: usize,
     counts: &mut [usize],
@@ -119,6 +124,7 @@ pub fn ones_of_root(
     requires node { IsNode ops.now.triples root.0 }
     requires some { 1 ≤ root.0 }
     requires marks { AreMarks ops.now.triples root.0 1 marks.now }
+    requires nexts { AreNexts marks.now nexts.now }
     requires bits { AreBits prefix.now.order.now prefix.now.bits.now prefix.now.next }
     requires upto { upto ≤ length prefix.now.order.now }
     requires room { length counts.old ≡ root.0 + 1 }
@@ -127,11 +133,13 @@ pub fn ones_of_root(
     let _count = ops.count();
     counts[0] = prefix.order.len();
     counts[1] = 0;
-    for at in 2..root.0 + 1 {
+    let mut at = 2;
+    while at <= root.0 {
         if marks[at] {
             let found = ones(ops, Node(at), prefix, upto, counts);
             counts[at] = found;
         }
+        at = nexts[at];
     }
     counts[root.0]
 }

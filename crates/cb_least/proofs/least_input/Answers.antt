@@ -1,6 +1,6 @@
 use Rattle.std.proofs.Common.{◌≡◌, ◌+◌, false, length, replicate, inl, sym, ap, subst, ◌∙◌, arith, rules}
 use Rattle.cb_ops.specs.Ops.{IsLeastTrue}
-use Rattle.cb_least.specs.Beginning.{AreMarks}
+use Rattle.cb_least.specs.Beginning.{AreMarks, AreNexts}
 use Rattle.cb_least.proofs.Marking.{written}
 use Rattle.cb_least.proofs.Reaches.{some-true}
 use Rattle.cb_least.proofs.Rows.{start-bits, start-begins}
@@ -12,7 +12,9 @@ find-requires-clause-search c =
     record {
       node = c.requires.node;
       some = omega (arith, ne);
-      marked = subst (AreMarks c.args.ops.now.triples c.args.f.0 1) (sym c.deref.ensures.value) c.in_ok-marks.ensures;
+      marked = subst (AreMarks c.args.ops.now.triples c.args.f.0 1) (sym c.deref-2.ensures.value) c.in_ok-marks.ensures;
+      next_marked = subst (AreNexts c.deref-2.result.now) (sym c.deref-3.ensures.value)
+          (subst (λ ms. AreNexts ms c.in_ok-nexts.nexts.items) (c.deref.ensures.value ∙ sym c.deref-2.ensures.value) c.in_ok-nexts.ensures);
       inverse = c.requires.order;
     }
 

@@ -1,13 +1,16 @@
 use Rattle.std.proofs.Common.{◌≡◌, ◌<◌, ◌≤◌, true, false, inl, inr, length, get_or, slice_set, length-set, sym, ap, subst, ◌∙◌, arith, rules}
 use Rattle.std.proofs.lemmas.Bool.{cases_eq, true≢false}
 use Rattle.cb_least.specs.Beginning.{HasOnes}
-use Rattle.cb_least.proofs.Marking.{child-low}
+use Rattle.cb_least.proofs.Marking.{before-next, child-low}
 use Rattle.cb_least.proofs.Ones.{start-ones, next-ones}
 use Rattle.cb_least.proofs.passes.ones_of_root.Goals as goal
 use Rattle.cb_least.proofs.passes.ones_of_root.Goals.{then-marks-at, else-marks-at}
 
 pub loop-at-init : goal.loop-at-init
-loop-at-init c n l is = start-ones c.args.ops.now.triples c.args.prefix.now.order.now c.args.prefix.now.bits.now c.args.prefix.now.next c.args.upto c.args.counts.now (omega (arith, c.requires.room, c.requires.some)) n l
+loop-at-init c = record {
+  low = omega arith;
+  right = λ n l is. start-ones c.args.ops.now.triples c.args.prefix.now.order.now c.args.prefix.now.bits.now c.args.prefix.now.next c.args.upto c.args.counts.now (omega (arith, c.requires.room, c.requires.some)) n l;
+}
 
 pub ones-found-requires-clause-children : goal.ones-found-requires-clause-children
 ones-found-requires-clause-children c level lo hi parts =
@@ -16,25 +19,32 @@ ones-found-requires-clause-children c level lo hi parts =
     let at = c.loop-at.at in
     let here : get_or c.args.marks.now at false ≡ true = search rules in
     let within : at ≤ root = omega arith in
-    let m = c.requires.marks.closed at level lo hi (omega arith) within here parts in
+    let m = c.requires.marks.closed at level lo hi (omega (arith, c.loop-at.invariant.low)) within here parts in
     let low = child-low ts c.count-count.ensures.diagram at level lo hi (omega (arith, within, c.requires.node)) parts in
-    (c.loop-at.invariant lo.0 low.0 m.0, c.loop-at.invariant hi.0 low.1 m.1)
+    (c.loop-at.invariant.right lo.0 low.0 m.0, c.loop-at.invariant.right hi.0 low.1 m.1)
 
 pub loop-at-preserved : goal.loop-at-preserved
-loop-at-preserved c = elim c.if-marks-at.branch [
-  | then-marks-at w ↦ λ n l is.
-      let p = c.args.prefix.now in
-      let ts = c.args.ops.now.triples in
-      let at = c.loop-at.at in
-      let long : at < length c.loop-at.counts = omega (arith, c.loop-at.auto.counts, c.loop-at-test.true, c.requires.room, length-set (slice_set c.args.counts.now 0 (length p.order.now)) 1 0, length-set c.args.counts.now 0 (length p.order.now)) in
-      subst (λ rs. HasOnes ts p.order.now p.bits.now p.next c.args.upto n (get_or rs n 0)) (sym w.counts-is)
-      (next-ones ts p.order.now p.bits.now p.next c.args.upto at w.ones-found.result c.args.marks.now c.loop-at.counts long w.ones-found.ensures c.loop-at.invariant n l is)
-  | else-marks-at w ↦ λ n l is.
-      let p = c.args.prefix.now in
-      let ts = c.args.ops.now.triples in
-      subst (λ rs. HasOnes ts p.order.now p.bits.now p.next c.args.upto n (get_or rs n 0)) (sym w.counts-is)
-      (elim (cases_eq n c.loop-at.at) [
-        | inl e ↦ absurd (true≢false (sym is ∙ ap (λ k. get_or c.args.marks.now k false) e ∙ w.if-marks-at.false))
-        | inr ne ↦ c.loop-at.invariant n (omega (arith, l, ne)) is
-      ])
-]
+loop-at-preserved c =
+    let on = c.requires.nexts.on c.loop-at.at (omega (arith, c.requires.marks.long, c.loop-at-test.true)) in
+    record {
+      low = omega (arith, on, c.loop-at.invariant.low);
+      right = elim c.if-marks-at.branch [
+        | then-marks-at w ↦ λ n l is.
+            let p = c.args.prefix.now in
+            let ts = c.args.ops.now.triples in
+            let at = c.loop-at.at in
+            let long : at < length c.loop-at.counts = omega (arith, c.loop-at.auto.counts, c.loop-at-test.true, c.requires.room, length-set (slice_set c.args.counts.now 0 (length p.order.now)) 1 0, length-set c.args.counts.now 0 (length p.order.now)) in
+            subst (λ rs. HasOnes ts p.order.now p.bits.now p.next c.args.upto n (get_or rs n 0)) (sym w.counts-is)
+            (next-ones ts p.order.now p.bits.now p.next c.args.upto at w.ones-found.result c.args.marks.now c.loop-at.counts long w.ones-found.ensures c.loop-at.invariant.right n (before-next c.args.marks.now c.args.nexts.now c.requires.nexts c.loop-at.at (omega (arith, c.requires.marks.long, c.loop-at-test.true)) n l is) is)
+        | else-marks-at w ↦ λ n l is.
+            let p = c.args.prefix.now in
+            let ts = c.args.ops.now.triples in
+            subst (λ rs. HasOnes ts p.order.now p.bits.now p.next c.args.upto n (get_or rs n 0)) (sym w.counts-is)
+            (elim (cases_eq n c.loop-at.at) [
+              | inl e ↦ absurd (true≢false (sym is ∙ ap (λ k. get_or c.args.marks.now k false) e ∙ w.if-marks-at.false))
+              | inr ne ↦
+                  let m = before-next c.args.marks.now c.args.nexts.now c.requires.nexts c.loop-at.at (omega (arith, c.requires.marks.long, c.loop-at-test.true)) n l is in
+                  c.loop-at.invariant.right n (omega (arith, m, ne)) is
+            ])
+      ];
+    }

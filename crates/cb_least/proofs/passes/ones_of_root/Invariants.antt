@@ -1,6 +1,12 @@
-use Rattle.std.proofs.Common.{◌≡◌, ℕ, ◌<◌, true, false, get_or}
+use Rattle.std.proofs.Common.{◌≡◌, ℕ, ◌+◌, ◌-◌, ◌<◌, ◌≤◌, true, false, get_or}
 use Rattle.cb_least.specs.Beginning.{HasOnes}
 use Rattle.cb_least.proofs.passes.ones_of_root.Given as goal
 
 abbrev pub invariant-loop-at : goal.invariant-loop-at
-invariant-loop-at l = (n : ℕ) → n < l.at → get_or l.marks n false ≡ true → HasOnes l.ops.triples l.prefix.order.now l.prefix.bits.now l.prefix.next l.upto n (get_or l.counts n 0)
+invariant-loop-at l = record {
+  low : 2 ≤ l.at;
+  right : (n : ℕ) → n < l.at → get_or l.marks n false ≡ true → HasOnes l.ops.triples l.prefix.order.now l.prefix.bits.now l.prefix.next l.upto n (get_or l.counts n 0);
+}
+
+abbrev pub decreases-loop-at : goal.decreases-loop-at
+decreases-loop-at l = l.root.0 + 1 - l.at
