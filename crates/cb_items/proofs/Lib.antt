@@ -1,0 +1,4 @@
+pub mod Lists
+pub mod Shifts
+pub mod Bridges
+pub mod Additions

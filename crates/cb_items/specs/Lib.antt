@@ -1,0 +1,4 @@
+pub mod Standing
+pub mod Shifted
+pub mod Items
+pub mod Laws
