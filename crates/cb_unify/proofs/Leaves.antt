@@ -117,7 +117,7 @@ nil-bus s u r is p = record {
   value = λ t a w g q. q.reading.holds r cell.BusNil p.cell;
 }
 
-drop-step : {A : Type 0} (xs : List A) (k : ℕ) (d : A) → k < length xs → drop k xs ≡ get_or xs k d ∷ drop (k + 1) xs
+pub drop-step : {A : Type 0} (xs : List A) (k : ℕ) (d : A) → k < length xs → drop k xs ≡ get_or xs k d ∷ drop (k + 1) xs
 drop-step [] k d less = absurd (omega arith)
 drop-step (y ∷ xs) zero d less = refl
 drop-step (y ∷ xs) (suc k) d less = drop-step xs k d (omega arith) ∙ ap (λ n. get_or xs k d ∷ drop n (y ∷ xs)) (let e : suc (k + 1) ≡ suc k + 1 = omega arith in e)

@@ -8,3 +8,7 @@ pub mod Added
 pub mod Leaves
 mod Inside
 pub mod Solving
+pub mod Exprs
+pub mod Compounds
+pub mod Written
+pub mod Bounds

@@ -60,7 +60,7 @@ count-map : {A B : Type 0} (f : A → B) (xs : List A) → length (map f xs) ≡
 count-map f [] = refl
 count-map f (x ∷ xs) = ap suc (count-map f xs)
 
-live-count : (s : Booleans) → length (live_levels s) ≡ width s
+pub live-count : (s : Booleans) → length (live_levels s) ≡ width s
 live-count s =
     length-append (levels_below s.constants) (map (λ f. f.level) s.free)
     ∙ (let a = count-below s.constants in let b = count-map (λ f. f.level) s.free in omega (arith, a, b))

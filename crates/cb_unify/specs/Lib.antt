@@ -4,3 +4,4 @@ pub mod Growth
 pub mod Lending
 pub mod Laws
 pub mod Solve
+pub mod Trees

@@ -40,6 +40,21 @@ impl Frame {
     {
         Ref(self.cells[k as usize])
     }
+
+    // The cell of a variable.
+    pub(crate) fn cell(&self, k: usize) -> Ref
+        requires { k < length self.now }
+        ensures { slice_get self.now k ≡ Some result.0 }
+    {
+        Ref(self.cells[k])
+    }
+
+    // The number of variables.
+    pub(crate) fn len(&self) -> usize
+        ensures { result ≡ length self.now }
+    {
+        self.cells.len()
+    }
 }
 
 impl State {

@@ -16,6 +16,7 @@ ghost use Rattle.cb_unify.specs.Growth.{HasSlot};
 ghost use Rattle.cb_unify.specs.Lending.{LendsOps, LendsStore};
 ghost use Rattle.cb_unify.specs.Laws.{OpsAreLent, StoreIsLent};
 
+mod build;
 mod bus;
 mod fresh;
 mod solve;
