@@ -2,12 +2,16 @@
 //! (Brace, Rudell and Bryant 1990).
 #![tactic(auto)]
 
-ghost use Rattle.std.specs.Prelude.{ℕ, Bool, ◌⊎◌, Some, None, Ok, Err, if◌then◌else◌, OnErr, slice_get, IfSome, IfNone, ◌≡◌, ◌≢◌, ◌+◌, ◌-◌, ◌<◌, ◌≤◌, ◌^◌, ◌↔◌, [], ◌∷◌, ◌++◌, length, take, IfOk, OnOk};
+ghost use Rattle.std.proofs.Common.{rules};
+ghost use Rattle.std.specs.Cmp.Rules.{hashing};
+ghost use Rattle.std.specs.Hash as fed;
+ghost use Rattle.std.specs.Prelude.{ℕ, Bool, ◌⊎◌, Some, None, Ok, Err, if◌then◌else◌, OnErr, slice_get, IfSome, IfNone, ◌≡◌, ◌≢◌, ◌+◌, ◌*◌, ◌-◌, ◌<◌, ◌≤◌, ◌^◌, ◌↔◌, [], ◌∷◌, ◌++◌, length, take, IfOk, OnOk};
 ghost use Rattle.cb_model.specs.Bits.{Bits};
 ghost use Rattle.cb_dd.specs.Diagram.{Store, IsDiagram, IsCanonical, IsNode, IsChild, HasParts, IsFull, Extends, Holds, function_of, level_of, fulls_after, triple, parts_of};
 
 use indexmap::IndexSet;
 use std::alloc::{AllocError, Global};
+use std::hash::{Hash, Hasher};
 use std::marker::Model;
 use thiserror::Error;
 
@@ -24,11 +28,23 @@ impl Node {
 }
 
 /// The level of a node and the numbers of its children: `lo` where the bit at the level is 0, `hi` where it is 1.
-#[derive(Clone, Copy, PartialEq, Eq, Hash, Debug)]
+#[derive(Clone, Copy, PartialEq, Eq, Debug)]
 pub struct Triple {
     pub level: u32,
     pub lo: u32,
     pub hi: u32,
+}
+
+// All numbers are hashed at once.
+impl Hash for Triple {
+    ghost hash_input = { λ t. fed.u128 (t.level * 18446744073709551616 + (t.lo * 4294967296 + t.hi)) };
+
+    ghost respects_eq = { Prim.search (hashing, rules) };
+
+    fn hash<H: Hasher>(&self, state: &mut H) {
+        let children = self.lo as u128 * 4_294_967_296 + self.hi as u128;
+        state.write_u128(self.level as u128 * 18_446_744_073_709_551_616 + children);
+    }
 }
 
 /// Why no node was made.

@@ -9,7 +9,7 @@ use Rattle.std.specs.Prelude.{Result, Ok, Err, OnOk, OnErr}
 use Rattle.cb_dd.specs.declared.Triple.{Triple}
 use Rattle.cb_dd.specs.Diagram.{IsDiagram, function_of}
 use Rattle.cb_dd.proofs.Diagrams.{function_of-append}
-use Rattle.cb_ops.specs.declared.Call.{Call}
+use Rattle.cb_ops.specs.declared.memos.Call.{Call}
 use Rattle.cb_ops.specs.Call.{call_eq, IsAnswer, IsMemo}
 
 pub call_eq-same : (x y : Call) → call_eq x y ≡ true → x ≡ y

@@ -9,7 +9,7 @@ use Rattle.cb_model.specs.Bits.{xor}
 use Rattle.cb_dd.specs.declared.Triple.{Triple}
 use Rattle.cb_dd.specs.Diagram.{function_of}
 use Rattle.cb_dd.proofs.Diagrams.{function_of-append}
-use Rattle.cb_ops.specs.declared.Pair.{Pair}
+use Rattle.cb_ops.specs.declared.memos.Pair.{Pair}
 use Rattle.cb_ops.specs.Ops.{IsXor}
 use Rattle.cb_ops.specs.Pair.{pair_eq, IsPairAnswer, IsPairs, IsSamePair}
 use Rattle.cb_ops.proofs.Connectives.{xor-comm}

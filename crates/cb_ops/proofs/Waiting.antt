@@ -12,14 +12,14 @@ use Rattle.cb_dd.specs.declared.Stop.{Stop}
 use Rattle.cb_dd.specs.declared.Stop.TheVariants.{Nodes, Memory}
 use Rattle.cb_dd.specs.Diagram.{Store, IsNode, IsDiagram, function_of, level_of}
 use Rattle.cb_dd.proofs.Diagrams.{function_of-put}
-use Rattle.cb_ops.specs.declared.Choice.{Choice}
-use Rattle.cb_ops.specs.declared.Operation.{Operation}
-use Rattle.cb_ops.specs.declared.Operation.TheVariants.{Ite, Xor}
-use Rattle.cb_ops.specs.declared.Pending.{Pending}
-use Rattle.cb_ops.specs.declared.Left.{Left}
-use Rattle.cb_ops.specs.declared.Left.TheVariants as left
-use Rattle.cb_ops.specs.declared.Turn.{Turn}
-use Rattle.cb_ops.specs.declared.Turn.TheVariants as turn
+use Rattle.cb_ops.specs.declared.calls.Choice.{Choice}
+use Rattle.cb_ops.specs.declared.calls.Operation.{Operation}
+use Rattle.cb_ops.specs.declared.calls.Operation.TheVariants.{Ite, Xor}
+use Rattle.cb_ops.specs.declared.calls.Pending.{Pending}
+use Rattle.cb_ops.specs.declared.calls.Left.{Left}
+use Rattle.cb_ops.specs.declared.calls.Left.TheVariants as left
+use Rattle.cb_ops.specs.declared.calls.Turn.{Turn}
+use Rattle.cb_ops.specs.declared.calls.Turn.TheVariants as turn
 use Rattle.cb_ops.specs.Ops.{Grows, IsIte, IsXor, DependsOn, DependAll, Room, HasCause}
 use Rattle.cb_ops.specs.Waiting.{combined, value_of, IsValue, AreCalled, IsPart, IsHalf, HasLeft, Waits, IsAnswered, Asked, Resumed, bit_of, made_of, fulls_after_turn}
 use Rattle.cb_ops.proofs.Ite.{put-id, essential, grown-node, grown-function, grown-level, grown-child, grown-cofactor, Grows-same, Grows-then, grown-depends, cofactor-depends, without, without-lt, listed, least-three}

@@ -4,7 +4,7 @@ use Rattle.indexmap.specs.IndexMap.{IndexMap, get}
 use Rattle.cb_dd.specs.declared.Triple.{Triple}
 use Rattle.cb_model.specs.Bits.{Bits}
 use Rattle.cb_dd.specs.Diagram.{IsDiagram, function_of}
-use Rattle.cb_ops.specs.declared.Call.{Call}
+use Rattle.cb_ops.specs.declared.memos.Call.{Call}
 use Rattle.cb_ops.specs.Ops.{IsIte}
 
 abbrev pub call_eq : Call → Call → Bool

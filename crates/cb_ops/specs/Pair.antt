@@ -2,7 +2,7 @@
 use Rattle.std.specs.Prelude.{◌≡◌, ◌⊎◌, ℕ, ◌<◌, Bool, ◌&&◌, List, nat_eq, Some}
 use Rattle.indexmap.specs.IndexMap.{IndexMap, get}
 use Rattle.cb_dd.specs.declared.Triple.{Triple}
-use Rattle.cb_ops.specs.declared.Pair.{Pair}
+use Rattle.cb_ops.specs.declared.memos.Pair.{Pair}
 use Rattle.cb_ops.specs.Ops.{IsXor}
 
 abbrev pub pair_eq : Pair → Pair → Bool

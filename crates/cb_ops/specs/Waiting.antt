@@ -6,14 +6,14 @@ use Rattle.cb_dd.specs.declared.Stop.{Stop}
 use Rattle.cb_dd.specs.declared.Stop.TheVariants.{Nodes, Memory}
 use Rattle.cb_dd.specs.Diagram.{IsNode, IsChild, function_of, level_of}
 use Rattle.cb_ops.specs.Ops.{IsCofactor, StandsFor}
-use Rattle.cb_ops.specs.declared.Choice.{Choice}
-use Rattle.cb_ops.specs.declared.Operation.{Operation}
-use Rattle.cb_ops.specs.declared.Operation.TheVariants.{Ite, Xor}
-use Rattle.cb_ops.specs.declared.Pending.{Pending}
-use Rattle.cb_ops.specs.declared.Left.{Left}
-use Rattle.cb_ops.specs.declared.Left.TheVariants as left
-use Rattle.cb_ops.specs.declared.Turn.{Turn}
-use Rattle.cb_ops.specs.declared.Turn.TheVariants as turn
+use Rattle.cb_ops.specs.declared.calls.Choice.{Choice}
+use Rattle.cb_ops.specs.declared.calls.Operation.{Operation}
+use Rattle.cb_ops.specs.declared.calls.Operation.TheVariants.{Ite, Xor}
+use Rattle.cb_ops.specs.declared.calls.Pending.{Pending}
+use Rattle.cb_ops.specs.declared.calls.Left.{Left}
+use Rattle.cb_ops.specs.declared.calls.Left.TheVariants as left
+use Rattle.cb_ops.specs.declared.calls.Turn.{Turn}
+use Rattle.cb_ops.specs.declared.calls.Turn.TheVariants as turn
 
 -- the bit of a call from the bits of its nodes
 abbrev pub combined : Operation → Bool → Bool → Bool → Bool

@@ -9,8 +9,8 @@ ghost use Rattle.cb_ops.specs.Composed.{AreLower, ComposedRoom, ComposedCause, L
 ghost use Rattle.cb_ops.specs.Makes.{Makes, MakesNode};
 ghost use Rattle.cb_ops.specs.Walk.{AllMade, IsMadeSide, IsVisit, WentDown, WentUp, PutRoom, images_of, side_of, fulls_after_step};
 
-use crate::walk::{Rest, Step, Visit};
-use crate::{Ops, recall_in, remember};
+use crate::Ops;
+use crate::walk::{Rest, Step, Visit, recall_in, remember};
 use cb_dd::{Node, Stop};
 use indexmap::IndexMap;
 

@@ -6,8 +6,8 @@ ghost use Rattle.cb_ops.specs.Ops.{Grows, StandsFor, Room, HasCause};
 ghost use Rattle.cb_ops.specs.Makes.{Makes};
 ghost use Rattle.cb_ops.specs.Walk.{AllMade, IsMadeSide, IsVisit, IsStill, WentDown, WentUp, joined, joins, side_of, sides_of, fulls_after_step};
 
-use crate::walk::{Rest, Step, Visit};
-use crate::{Ops, recall_in, remember};
+use crate::Ops;
+use crate::walk::{Rest, Step, Visit, recall_in, remember};
 use cb_dd::{Node, Stop};
 use indexmap::IndexMap;
 

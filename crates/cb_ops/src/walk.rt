@@ -1,5 +1,10 @@
 // What a walk over the nodes of a diagram keeps of those that wait for the answers of their sides.
+ghost use Rattle.std.specs.Prelude.{◌≡◌, ◌⊎◌, Some, IfSome};
+ghost use Rattle.indexmap.specs.IndexMap.{get};
+ghost use Rattle.cb_ops.specs.Done.{node_eq};
+
 use cb_dd::Node;
+use indexmap::IndexMap;
 
 // A node that waits for the answer of a side.
 #[derive(Clone, Copy)]
@@ -23,4 +28,19 @@ pub(crate) enum Rest {
 pub(crate) enum Step {
     Down(Node),
     Up(Node),
+}
+
+// What was remembered for the node.
+pub(crate) fn recall_in(done: &IndexMap<Node, Node>, n: Node) -> Option<Node>
+    ensures { IfSome result (λ r. get node_eq done.now n ≡ Some r) }
+{
+    done.get(&n).copied()
+}
+
+// Remembers the answer for the node; where there is no memory for it, nothing more is remembered.
+pub(crate) fn remember(done: &mut IndexMap<Node, Node>, n: Node, r: Node)
+    ensures { (q v : Node) → get node_eq done.new q ≡ Some v
+        → ((q ≡ n) × (v ≡ r)) ⊎ (get node_eq done.old q ≡ Some v) }
+{
+    let _ = done.insert(n, r);
 }

@@ -1,5 +1,5 @@
 use Rattle.std.proofs.Common.{refl}
-use Rattle.cb_ops.specs.declared.Left.TheVariants as left
+use Rattle.cb_ops.specs.declared.calls.Left.TheVariants as left
 use Rattle.cb_ops.proofs.Ops.ask.Goals as goal
 
 pub returns-clause-asked : goal.returns-clause-asked

@@ -1,6 +1,6 @@
 use Rattle.std.proofs.Common.{refl, ap, sym, subst}
 use Rattle.cb_dd.specs.Diagram.{Store}
-use Rattle.cb_ops.specs.declared.Left.TheVariants as left
+use Rattle.cb_ops.specs.declared.calls.Left.TheVariants as left
 use Rattle.cb_ops.specs.Waiting.{bit_of, IsAnswered}
 use Rattle.cb_ops.proofs.Waiting.{halves-meet, left-high, left-low, half-of}
 use Rattle.cb_ops.proofs.Ops.resume.Goals as goal

@@ -1,7 +1,7 @@
 use Rattle.std.proofs.Common.{rules, [], ◌∷◌, sym, subst, ◌≡◌, ◌∙◌, ◌<◌}
 use Rattle.std.proofs.lemmas.Result.{err_from_is_err_and}
-use Rattle.cb_ops.specs.declared.Choice.{Choice}
-use Rattle.cb_ops.specs.declared.Turn.TheVariants as turn
+use Rattle.cb_ops.specs.declared.calls.Choice.{Choice}
+use Rattle.cb_ops.specs.declared.calls.Turn.TheVariants as turn
 use Rattle.cb_ops.proofs.Ite.{Grows-then}
 use Rattle.cb_ops.proofs.Waiting.{Going, going-called, going-turn, going-asked, asked-work, going-waits, going-half, going-resumed, resumed-work, refused-room, going-answer, going-room, room-of, turn-cause, work_of}
 use Rattle.cb_ops.proofs.Ops.run.Goals as goal

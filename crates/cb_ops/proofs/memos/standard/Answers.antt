@@ -1,6 +1,6 @@
 use Rattle.cb_ops.specs.Call.{IsSameCall}
 use Rattle.cb_ops.proofs.Same.{same-then, same-and, same-or}
-use Rattle.cb_ops.proofs.standard.Goals as goal
+use Rattle.cb_ops.proofs.memos.standard.Goals as goal
 
 pub returns : goal.returns
 returns c = same-then c.args.f.0 c.args.g.0 c.args.h.0 c.args.f.0 c.then_side-g.result.0 c.args.h.0 c.args.f.0 c.then_side-g.result.0 c.else_side-h.result.0 (c.then_side-g.ensures c.args.h.0) (c.else_side-h.ensures c.then_side-g.result.0)

@@ -1,6 +1,6 @@
 use Rattle.cb_ops.proofs.Memo.{either-way}
 use Rattle.cb_ops.proofs.Restrict.{remembered, remembered-same}
-use Rattle.cb_ops.proofs.remember.Goals as goal
+use Rattle.cb_ops.proofs.walk.remember.Goals as goal
 
 pub returns : goal.returns
 returns c =
