@@ -1,9 +1,9 @@
 //! The texts of printed lines. Each is made whole, with all its memory, before a byte of it is written.
 
 ghost use Rattle.std.specs.Prelude.{◌≡◌, ◌≤◌, ◌-◌, [], ◌∷◌, ◌++◌, map, length, codes, decimal, IfOk, OnOk};
-ghost use Rattle.cb_model.specs.Text.{name_text, shown_name, lines_text};
+ghost use Rattle.cb_model.specs.Text.{shown_name, lines_text};
 ghost use Rattle.cb_model.specs.Verdicts.{bit_text, port_texts, at_text, differs_text};
-ghost use Rattle.cb_lines.specs.Lines.{spaced, output_text};
+ghost use Rattle.cb_lines.specs.Lines.{spaced, output_text, word_text, names_text};
 
 use cb_show::push_name;
 use itoa::Buffer;
@@ -24,12 +24,54 @@ pub const UNBUILT: &[u8] = b"error: not built yet\n";
 /// The budget of nodes was reached.
 pub const STOPPED_NODES: &[u8] = b"stopped: nodes\n";
 
-/// The line of a module that agrees with its specification.
-pub fn verified_line(alloc: Global, name: &[u8]) -> Result<Vec<u8>, AllocError>
-    ensures { IfOk result (λ v. v.items ≡ lines_text ((codes "verified " ++ name_text name.now) ∷ [])) }
+/// There is no module of a name.
+pub const NO_MODULE: &[u8] = b"error: no such module\n";
+
+/// There is no specification of a module's name.
+pub const NO_SPEC: &[u8] = b"error: no specification\n";
+
+/// Two sides of a comparison have different numbers of ports.
+pub const PORTS_DIFFER: &[u8] = b"error: ports differ\n";
+
+/// What is compared.
+#[derive(Clone, Copy)]
+pub enum Pair<'a> {
+    /// The module of a name with its specification.
+    Specified(&'a [u8]),
+    /// The module of the first name with that of the second.
+    Modules(&'a [u8], &'a [u8]),
+}
+
+// The word of a pair whose sides agree.
+fn word(pair: Pair<'_>) -> &'static [u8]
+    ensures { result.now ≡ word_text pair.entry }
 {
-    let mut line = Vec::from_slice(alloc, b"verified ")?;
-    push_name(&mut line, name)?;
+    match pair {
+        Pair::Specified(_) => b"verified ",
+        Pair::Modules(..) => b"same ",
+    }
+}
+
+// The names of a pair.
+fn push_names(line: &mut Vec<u8>, pair: Pair<'_>) -> Result<(), AllocError>
+    ensures { OnOk result (line.new.items ≡ line.old.items ++ names_text pair.entry) }
+{
+    match pair {
+        Pair::Specified(name) => push_name(line, name),
+        Pair::Modules(one, two) => {
+            push_name(line, one)?;
+            line.push(b' ')?;
+            push_name(line, two)
+        }
+    }
+}
+
+/// The line of two sides that agree.
+pub fn agrees_line(alloc: Global, pair: Pair<'_>) -> Result<Vec<u8>, AllocError>
+    ensures { IfOk result (λ v. v.items ≡ lines_text ((word_text pair.entry ++ names_text pair.entry) ∷ [])) }
+{
+    let mut line = Vec::from_slice(alloc, word(pair))?;
+    push_names(&mut line, pair)?;
     line.push(b'\n')?;
     Ok(line)
 }
@@ -47,11 +89,11 @@ pub fn checked_line(alloc: Global, clauses: usize, modules: usize) -> Result<Vec
     Ok(line)
 }
 
-/// The line of a module that differs from its specification: the input and the output, counted from 1, at which it
-/// does, what the output is there and what was wanted.
+/// The line of two sides that differ: the input and the output, counted from 1, at which they do, what the output is
+/// there and what was wanted.
 pub fn differs_line(
     alloc: Global,
-    name: &[u8],
+    pair: Pair<'_>,
     ports: &[&[u8]],
     input: &[bool],
     output: u32,
@@ -60,10 +102,10 @@ pub fn differs_line(
 ) -> Result<Vec<u8>, AllocError>
     requires ports { length ports.now ≡ length input.now }
     requires output { 1 ≤ output }
-    ensures { IfOk result (λ v. v.items ≡ lines_text (differs_text (name_text name.now) (map (λ p. p.now) ports.now) input.now (output - 1) got wanted ∷ [])) }
+    ensures { IfOk result (λ v. v.items ≡ lines_text (differs_text (names_text pair.entry) (map (λ p. p.now) ports.now) input.now (output - 1) got wanted ∷ [])) }
 {
     let mut line = Vec::from_slice(alloc, b"differs ")?;
-    push_name(&mut line, name)?;
+    push_names(&mut line, pair)?;
     push_inputs(&mut line, ports, input)?;
     push_output(&mut line, output, got, wanted)?;
     Ok(line)

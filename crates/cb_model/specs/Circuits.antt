@@ -46,11 +46,6 @@ pub record Consistent (c : Circuit) (input v : List Bool) : Type 0 where
   pub inputs : take c.inputs v ≡ input
   pub gates : Each (GateHolds v) c.gates
 
--- gates that each read only nets before their own, whose output nets go on from n
-abbrev pub Ordered : ℕ → List Gate → Type 0
-Ordered n [] = Unit {0}
-Ordered n (g ∷ gs) = (g.out ≡ n) × Each (λ k. k < n) g.ins × Ordered (suc n) gs
-
 -- these outputs at this input
 pub record Outputs (c : Circuit) (input output : List Bool) : Type 0 where
   pub v : List Bool

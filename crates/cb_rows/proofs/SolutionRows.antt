@@ -17,8 +17,8 @@ use Rattle.cb_model.specs.Values.{IsValuation, Ground, Bit, Word, Name, More, Fi
 use Rattle.cb_model.specs.Equations.{SolvedAt, Refuted, ReadsBelow, Solves, TableBit, TableInt, TableName, NoTabled, OneTabled, TabledBelow, valued}
 use Rattle.cb_model.specs.Derivation.{Entry, Run, Try, Step, Answered, Dropped, Adds, event_of}
 use Rattle.cb_model.specs.Answers.{Picks, Gen, Denotes}
-use Rattle.cb_model.specs.Circuits.{Ordered, Consistent}
-use Rattle.cb_model.specs.Sound.{IsSound, HasOneValuation}
+use Rattle.cb_model.specs.Circuits.{Consistent}
+use Rattle.cb_model.specs.Sound.{HasOneValuation}
 use Rattle.cb_laws.proofs.Values.{expr_values, tree_values}
 use Rattle.cb_laws.proofs.Tables.{with_bits, zero_fits, bits_equal}
 use Rattle.cb_rows.specs.TryRow as try
@@ -203,15 +203,6 @@ tries = record {
 
 -- ---- circuits
 
-half_ordered : Ordered 2 half.gates
-half_ordered = (refl, (lit< tt, (lit< tt, tt)), (refl, (lit< tt, (lit< tt, tt)), tt))
-
-own_net : Ordered 0 (turning gate.Not).gates → ⊥
-own_net h = let e : 0 < 0 = h.1.0 in omega arith
-
-half_sound : IsSound half
-half_sound = record { nets = refl; ordered = half_ordered; pins = (refl, (refl, tt)); outputs = (lit< tt, (lit< tt, tt)); small = lit< tt }
-
 only_this : (w : List Bool) → Consistent half (true ∷ true ∷ []) w → w ≡ true ∷ true ∷ false ∷ true ∷ []
 only_this [] k = let n = k.every_net in absurd (omega arith)
 only_this (a ∷ []) k = let n = k.every_net in absurd (omega arith)
@@ -286,20 +277,10 @@ rows_hold = record {
   drops_silently = drops_silently;
   drops_refuted = drops_refuted;
   tries = tries;
-  ordered = half_ordered;
-  own_net = own_net;
-  next_net = λ h. let e : true ≡ false = ap (λ n. n == 3) h.0 in cc;
   consistent = record { every_net = refl; inputs = refl; gates = (refl, (refl, tt)) };
   wrong_output = λ c. let e : true ≡ false = c.gates.0 in cc;
   wrong_input = λ c. let e : true ∷ false ∷ [] ≡ true ∷ true ∷ [] = c.inputs in cc;
   a_net_less = λ c. let e : true ≡ false = ap (λ n. n == 3) c.every_net in cc;
-  sound = half_sound;
-  no_such_net = λ h. let e : 4 < 4 = h.outputs.0 in omega arith;
-  one_pin = λ h. let e : false ≡ true = h.pins.0 in cc;
-  reads_own = λ h. own_net h.ordered;
-  one_more_net = λ h. let e : true ≡ false = ap (λ n. n == 5) h.nets in cc;
-  most_nets = record { nets = refl; ordered = tt; pins = tt; outputs = tt; small = lit< tt };
-  too_many_nets = λ h. let s = h.small in omega arith;
   one_valuation = one_valuation;
   no_valuation = λ h. not_itself _ h.consistent.gates.0;
   two_valuations = two_valuations;

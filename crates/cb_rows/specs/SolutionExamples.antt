@@ -13,8 +13,8 @@ use Rattle.cb_model.specs.Values.{World, Sorts, Fits, Bit, Word, Name, Last, Mor
 use Rattle.cb_model.specs.Equations.{Item, Pair, Part, SolvedAt, Solvable, Refuted, Table, ReadsBelow, TableBit, TableInt, TableName, NoTabled, OneTabled, Substitution, Solves, ReadsOnly, item_in_scope}
 use Rattle.cb_model.specs.Derivation.{Branch, Entry, Run, Try, Step, first_branch}
 use Rattle.cb_model.specs.Answers.{Gen, Denotes}
-use Rattle.cb_model.specs.Circuits.{Ordered, Consistent}
-use Rattle.cb_model.specs.Sound.{IsSound, HasOneValuation}
+use Rattle.cb_model.specs.Circuits.{Consistent}
+use Rattle.cb_model.specs.Sound.{HasOneValuation}
 use Rattle.cb_rows.specs.TryRow as try
 use Rattle.cb_rows.specs.CircuitGoalRow.{half}
 
@@ -186,25 +186,11 @@ pub record SolutionExamples : Type 0 where
   pub drops_refuted : Step try.p (Run (try.called expr.Zero)) below below None
   -- a clause is tried, and the next one stays below it and above the others
   pub tries : Step try.p (Try try.behind 0 (try.X ∷ []) 0) below (Run (try.called expr.Zero) ∷ Try try.behind 0 (try.X ∷ []) 1 ∷ below) None
-  -- gates read earlier nets, and drive the next one
-  pub ordered : Ordered 2 half.gates
-  pub own_net : Ordered 0 (turning gate.Not).gates → ⊥
-  pub next_net : Ordered 2 (gate_at gate.Not (0 ∷ []) 3 ∷ []) → ⊥
   -- a bit for every net, the inputs' first
   pub consistent : Consistent half (true ∷ true ∷ []) (true ∷ true ∷ false ∷ true ∷ [])
   pub wrong_output : Consistent half (true ∷ true ∷ []) (true ∷ true ∷ true ∷ true ∷ []) → ⊥
   pub wrong_input : Consistent half (true ∷ true ∷ []) (true ∷ false ∷ true ∷ false ∷ []) → ⊥
   pub a_net_less : Consistent half (false ∷ false ∷ []) (false ∷ false ∷ false ∷ []) → ⊥
-  -- a sound circuit; and what isn't one: an output that is no net, a gate with a pin too few, a gate that reads its own
-  -- output, a net too many
-  pub sound : IsSound half
-  pub no_such_net : IsSound (record half { outputs = 4 ∷ [] }) → ⊥
-  pub one_pin : IsSound (record half { nets = 3; gates = gate_at gate.And (0 ∷ []) 2 ∷ []; outputs = [] }) → ⊥
-  pub reads_own : IsSound (turning gate.Not) → ⊥
-  pub one_more_net : IsSound (record half { nets = 5 }) → ⊥
-  -- the numbers of nets fit 32 bits
-  pub most_nets : IsSound (record half { inputs = 2 ^ 32 - 1; nets = 2 ^ 32 - 1; gates = []; outputs = [] })
-  pub too_many_nets : IsSound (record half { inputs = 2 ^ 32; nets = 2 ^ 32; gates = []; outputs = [] }) → ⊥
   -- one valuation, none, and two
   pub one_valuation : HasOneValuation half (true ∷ true ∷ [])
   pub no_valuation : HasOneValuation (turning gate.Not) [] → ⊥

@@ -30,10 +30,10 @@ use Rattle.cb_run.specs.Run as run
 use Rattle.cb_run.specs.Run.{Holds, RunSays}
 use Rattle.cb_run.specs.Running.{FileRun, with_facts, asked, ProgramRun, read, input_failed, input_wanting, InputBegins, nothing_yet, begins, so_far, InputDecides}
 use Rattle.cb_run.proofs.Outcomes.{input-side}
-use Rattle.cb_commands.specs.Says.{CheckSays, VerifySays}
-use Rattle.cb_commands.proofs.Outcomes.{check-facts, verify-facts}
+use Rattle.cb_commands.specs.Says.{CheckSays, VerifyOver, SameOver}
+use Rattle.cb_commands.proofs.Outcomes.{check-facts, verify-facts, same-facts}
 use Rattle.cb_top.specs.Built as built
-use Rattle.cb_top.specs.Built.{Task, Checking, Running, Comparing, command_over, CommandSays, FileSays, Output, OutputBegins, TakesBy, bytes_or}
+use Rattle.cb_top.specs.Built.{Task, Checking, Running, Comparing, Pairing, command_over, CommandSays, FileSays, Output, OutputBegins, TakesBy, bytes_or}
 use Rattle.cb_top.specs.Top.{Appends, Prints, IsRun, MayStop, Ran}
 use Rattle.cb_top.specs.Tasks as tasks
 use Rattle.cb_top.specs.Tasks.{TaskRun, BytesRun}
@@ -54,6 +54,7 @@ name-of : (file : Text) (task : Task) → Some file ≡ file_name (Some (command
 name-of file Checking = refl
 name-of file (Running r n) = refl
 name-of file (Comparing x n) = refl
+name-of file (Pairing x y n) = refl
 
 -- ---- what is appended
 
@@ -193,12 +194,14 @@ says_of : (name : Text) (task : Task) (file input : Text) (lines : List Text) (o
 says_of name Checking file input lines o h = h
 says_of name (Running r n) file input lines o h = h
 says_of name (Comparing x n) file input lines o h = h
+says_of name (Pairing x y n) file input lines o h = h
 
 -- a refused file leaves the input
 takes-refused : (name : Text) (task : Task) (file bytes : Text) (left : Option Text) (r : Refused) → FileRefused file r → left ≡ Some bytes → TakesBy (Some (command_over name task)) file bytes left
 takes-refused name Checking file bytes left r h e = e
 takes-refused name (Running s n) file bytes left r h e = inr ((λ l i. refused-not-loaded file r h l i.loaded), e)
 takes-refused name (Comparing x n) file bytes left r h e = e
+takes-refused name (Pairing x y n) file bytes left r h e = e
 
 refused-ran : (name : Text) (task : Task) {files : Option (List (Text × Text))} {told left before after : Option Text} {result : Outcome} (file : Text) (r : Refused) → IsTold files name file → FileRefused file r → left ≡ told →
     Refusing r before after result → Ran (Some (command_over name task)) files told left before after result
@@ -246,6 +249,8 @@ task-ran name file Checking l {told = told} ft i h =
 task-ran name file (Running resolutions nodes) l ft i h = run-ran name file resolutions nodes l ft i h
 task-ran name file (Comparing x nodes) l {told = told} ft i h =
     tells-ran (Some (Verify name x nodes)) file (told_or told) (inl (λ q. some-none (Verify name x nodes) q)) ft (λ bytes p. ap told_or p) (λ bytes p. h.0 ∙ p) (λ lines o s. built.accepted l i s) h.1
+task-ran name file (Pairing x y nodes) l {told = told} ft i h =
+    tells-ran (Some (Same name x y nodes)) file (told_or told) (inl (λ q. some-none (Same name x y nodes) q)) ft (λ bytes p. ap told_or p) (λ bytes p. h.0 ∙ p) (λ lines o s. built.accepted l i s) h.1
 
 -- over any file that was loaded
 pub bytes-ran : (name file : Text) (task : Task) {files : Option (List (Text × Text))} {told left before after : Option Text} {result : Outcome} → IsTold files name file → BytesRun task file told left before after result →
@@ -277,8 +282,11 @@ refusing-side r k = tells-side (λ lines o h. subst IsDecided (sym h.1) tt) k
 pub check-side : (l : Loaded) {before after : Option Text} {result : Outcome} → Tells (CheckSays l) before after result → (s : Side) → (s ≡ side.Output → ⊥) → result ≡ outcome.Fault s → ⊥
 check-side l k = tells-side (λ lines o h. (check-facts l lines o h).ends) k
 
-pub verify-side : {cs : List FormClause} {name : Text} {nodes : Nodes} {before after : Option Text} {result : Outcome} → Tells (VerifySays cs name nodes) before after result → (s : Side) → (s ≡ side.Output → ⊥) → result ≡ outcome.Fault s → ⊥
-verify-side {cs} {name} {nodes} k = tells-side (λ lines o h. (verify-facts cs name nodes lines o h).ends) k
+pub verify-side : (l : Loaded) (name : Text) (nodes : Nodes) {before after : Option Text} {result : Outcome} → Tells (VerifyOver l name nodes) before after result → (s : Side) → (s ≡ side.Output → ⊥) → result ≡ outcome.Fault s → ⊥
+verify-side l name nodes k = tells-side (λ lines o h. (verify-facts l name nodes lines o h).ends) k
+
+pub same-side : (l : Loaded) (one two : Text) (nodes : Nodes) {before after : Option Text} {result : Outcome} → Tells (SameOver l one two nodes) before after result → (s : Side) → (s ≡ side.Output → ⊥) → result ≡ outcome.Fault s → ⊥
+same-side l one two nodes k = tells-side (λ lines o h. (same-facts l one two nodes lines o h).ends) k
 
 run-file : {cs : List FormClause} {d : Declared} {resolutions : ℕ} {nodes : Nodes} {told left before after : Option Text} {result : Outcome} → FileRun cs d resolutions nodes told left before after result → result ≡ outcome.Fault side.File → ⊥
 run-file (with_facts h l k) e = refusing-side unbuilt k side.File (λ (p : side.File ≡ side.Output). absurd (cc)) e
@@ -291,7 +299,8 @@ pub bytes-file : (task : Task) (file : Text) {told left before after : Option Te
 bytes-file task file (tasks.refused r h l k) e = refusing-side r k side.File (λ (p : side.File ≡ side.Output). absurd (cc)) e
 bytes-file Checking file (tasks.accepted l i h) e = check-side l h.1 side.File (λ (p : side.File ≡ side.Output). absurd (cc)) e
 bytes-file (Running r n) file (tasks.accepted l i h) e = run-file h e
-bytes-file (Comparing x n) file (tasks.accepted l i h) e = verify-side h.1 side.File (λ (p : side.File ≡ side.Output). absurd (cc)) e
+bytes-file (Comparing x n) file (tasks.accepted l i h) e = verify-side l x n h.1 side.File (λ (p : side.File ≡ side.Output). absurd (cc)) e
+bytes-file (Pairing x y n) file (tasks.accepted l i h) e = same-side l x y n h.1 side.File (λ (p : side.File ≡ side.Output). absurd (cc)) e
 bytes-file task file (tasks.wanting f w) e = let q : outcome.Memory ≡ outcome.Fault side.File = sym f ∙ e in cc
 
 -- an end by a refusal is no fault but of the output

@@ -13,10 +13,10 @@ use Rattle.cb_lines.proofs.Outcomes.{Facts, NotUsage, refusal-facts, reading-num
 use Rattle.cb_model.specs.Output as output
 use Rattle.cb_model.specs.Output.{Loaded, FileRefused, long, unread}
 use Rattle.cb_accept.proofs.Accepting.{some-none}
-use Rattle.cb_commands.proofs.Outcomes.{check-facts, verify-facts}
+use Rattle.cb_commands.proofs.Outcomes.{check-facts, verify-facts, same-facts}
 use Rattle.cb_run.specs.Run.{RunSays, with_facts, asked}
 use Rattle.cb_run.proofs.Outcomes.{input-facts}
-use Rattle.cb_top.specs.Built.{Task, Checking, Running, Comparing, TaskSays, FileSays, refused, accepted, CommandSays}
+use Rattle.cb_top.specs.Built.{Task, Checking, Running, Comparing, Pairing, TaskSays, FileSays, refused, accepted, CommandSays}
 use Rattle.cb_top.specs.Top.{IsRun, MayStop}
 
 pub file-number : (file : Text) (r : Refused) → FileRefused file r → r.number ≡ 19 → ⊥
@@ -31,6 +31,7 @@ abbrev pub TaskStops : Task → Type 0
 TaskStops Checking = ⊥
 TaskStops (Running resolutions nodes) = Unit {0}
 TaskStops (Comparing name nodes) = IsNumber nodes
+TaskStops (Pairing one two nodes) = IsNumber nodes
 
 run-facts : (file : Text) (cs : List FormClause) (resolutions : ℕ) (nodes : Nodes) (input : Text) (lines : List Text) (o : Outcome) → RunSays file cs resolutions nodes input lines o → Facts (Unit {0}) o
 run-facts file cs resolutions nodes input lines o (with_facts a h) = refusal-facts unbuilt lines o (λ (p : 99 ≡ 19). omega arith) h
@@ -39,7 +40,8 @@ run-facts file cs resolutions nodes input lines o (asked l i h) = input-facts l 
 task-facts : (task : Task) (file input : Text) (l : Loaded) (lines : List Text) (o : Outcome) → TaskSays task file input l lines o → Facts (TaskStops task) o
 task-facts Checking file input l lines o h = check-facts l lines o h
 task-facts (Running resolutions nodes) file input l lines o h = run-facts file l.clauses resolutions nodes input lines o h
-task-facts (Comparing name nodes) file input l lines o h = verify-facts l.clauses name nodes lines o h
+task-facts (Comparing name nodes) file input l lines o h = verify-facts l name nodes lines o h
+task-facts (Pairing one two nodes) file input l lines o h = same-facts l one two nodes lines o h
 
 file-facts : (task : Task) (file input : Text) (lines : List Text) (o : Outcome) → FileSays task file input lines o → Facts (TaskStops task) o
 file-facts task file input lines o (refused r t h) = refusal-facts r lines o (file-number file r t) h
@@ -65,7 +67,7 @@ says-outcome None file input lines o h = record {
 says-outcome (Some (Check f)) file input lines o h = of-facts (Check f) o (file-facts Checking file input lines o h)
 says-outcome (Some (Run f r n)) file input lines o h = of-facts (Run f r n) o (file-facts (Running r n) file input lines o h)
 says-outcome (Some (Verify f x n)) file input lines o h = of-facts (Verify f x n) o (file-facts (Comparing x n) file input lines o h)
-says-outcome (Some (Same f a b n)) file input lines o h = of-facts (Same f a b n) o (refusal-facts unbuilt lines o (λ (p : 99 ≡ 19). omega arith) h)
+says-outcome (Some (Same f a b n)) file input lines o h = of-facts (Same f a b n) o (file-facts (Pairing a b n) file input lines o h)
 says-outcome (Some (Make b n)) file input lines o h = of-facts (Make b n) o (refusal-facts unbuilt lines o (λ (p : 99 ≡ 19). omega arith) h)
 
 -- ---- faults

@@ -1,14 +1,13 @@
--- What is built so far of what the program prints: `check` on all files, `run` on files without facts of circuits over
--- queries of Boolean equations, and `verify` on files whose facts are in the first form.
+-- What is built so far of what the program prints: `check`, `verify` and `same` on all files, and `run` on files without
+-- facts of circuits over queries of Boolean equations.
 use Rattle.std.specs.Prelude.{◌≡◌, ◌⊎◌, ℕ, List, [], Option, Some, None}
 use Rattle.cb_model.specs.declared.Outcome.{Outcome}
 use Rattle.cb_model.specs.Text.{Text, IsPrefix}
 use Rattle.cb_model.specs.Commands.{Command, Check, Run, Verify, Same, Make, Nodes}
 use Rattle.cb_model.specs.Refusals.{Refused, Refuses, usage, unbuilt}
-use Rattle.cb_model.specs.Output.{Loaded, IsLoaded, FileRefused, ReadWhole}
+use Rattle.cb_model.specs.Output.{Loaded, IsLoaded, LoadedSays, FileRefused, ReadWhole}
 use Rattle.cb_model.specs.Outside.{bytes_named}
 use Rattle.cb_lines.specs.Ends.{IsSaid}
-use Rattle.cb_commands.specs.Says.{CheckSays, VerifySays}
 use Rattle.cb_run.specs.Run.{Holds, RunSays, Asking}
 
 -- what is asked of a file
@@ -16,18 +15,21 @@ pub data Task : Type 0 where
   Checking : Task
   Running : (resolutions : ℕ) (nodes : Nodes) → Task
   Comparing : (name : Text) (nodes : Nodes) → Task
+  Pairing : (one two : Text) (nodes : Nodes) → Task
 
 -- the command that asks it of the file of a name
 abbrev pub command_over : Text → Task → Command
 command_over file Checking = Check file
 command_over file (Running resolutions nodes) = Run file resolutions nodes
 command_over file (Comparing name nodes) = Verify file name nodes
+command_over file (Pairing one two nodes) = Same file one two nodes
 
 -- the lines and the outcome of a task over an accepted file and the input
 abbrev pub TaskSays : Task → Text → Text → Loaded → List Text → Outcome → Type 0
-TaskSays Checking file input l lines outcome = CheckSays l lines outcome
+TaskSays Checking file input l lines outcome = LoadedSays (Check []) input l lines outcome
 TaskSays (Running resolutions nodes) file input l lines outcome = RunSays file l.clauses resolutions nodes input lines outcome
-TaskSays (Comparing name nodes) file input l lines outcome = VerifySays l.clauses name nodes lines outcome
+TaskSays (Comparing name nodes) file input l lines outcome = LoadedSays (Verify [] name nodes) input l lines outcome
+TaskSays (Pairing one two nodes) file input l lines outcome = LoadedSays (Same [] one two nodes) input l lines outcome
 
 -- the same over any file
 pub data FileSays (task : Task) (file input : Text) (lines : List Text) (outcome : Outcome) : Type 0 where
@@ -40,7 +42,7 @@ CommandSays None file input lines outcome = Refuses usage lines outcome
 CommandSays (Some (Check f)) file input lines outcome = FileSays Checking file input lines outcome
 CommandSays (Some (Run f resolutions nodes)) file input lines outcome = FileSays (Running resolutions nodes) file input lines outcome
 CommandSays (Some (Verify f name nodes)) file input lines outcome = FileSays (Comparing name nodes) file input lines outcome
-CommandSays (Some (Same f a b n)) file input lines outcome = Refuses unbuilt lines outcome
+CommandSays (Some (Same f one two nodes)) file input lines outcome = FileSays (Pairing one two nodes) file input lines outcome
 CommandSays (Some (Make b n)) file input lines outcome = Refuses unbuilt lines outcome
 
 -- the text and the outcome belong to this command, this file and this input

@@ -41,7 +41,7 @@ MayStop None = ⊥
 MayStop (Some (Check f)) = ⊥
 MayStop (Some (Run f r n)) = Unit {0}
 MayStop (Some (Verify f x n)) = IsNumber n
-MayStop (Some (Same f x y n)) = ⊥
+MayStop (Some (Same f x y n)) = IsNumber n
 MayStop (Some (Make b n)) = ⊥
 
 -- what a command printed and how it ended

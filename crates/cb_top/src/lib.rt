@@ -13,7 +13,7 @@ ghost use Rattle.cb_top.specs.Top.{Prints, IsRun, MayStop, Ran};
 ghost use Rattle.cb_top.specs.Tasks.{task_view, ReadsInput, TaskRun, BytesRun};
 
 use cb_accept::{Accepted, accept, end, load_file};
-use cb_commands::{check, verify};
+use cb_commands::{check, same, verify};
 use cb_host::{Files, Sink, Source};
 use cb_lines::ended::finish;
 use cb_lines::lines;
@@ -51,6 +51,7 @@ enum Task<'w> {
     Check,
     Run { resolutions: u32, nodes: Nodes },
     Verify { name: &'w str, nodes: Nodes },
+    Same { one: &'w str, two: &'w str, nodes: Nodes },
 }
 
 // Runs a command, or refuses words that name none.
@@ -83,7 +84,17 @@ fn over_command<F: Files, I: Source, O: Sink>(
         Some(Command::Verify { file, name, nodes }) => {
             over_file(alloc, file, Task::Verify { name, nodes }, files, input, out)
         }
-        Some(Command::Same { .. }) => finish(out, lines::UNBUILT, Outcome::Refused(99)),
+        Some(
+            Command::Same {
+                file,
+                one,
+                two,
+                nodes,
+            },
+        ) => {
+            let task = Task::Same { one, two, nodes };
+            over_file(alloc, file, task, files, input, out)
+        }
         Some(Command::Make { .. }) => finish(out, lines::UNBUILT, Outcome::Refused(99)),
     }
 }
@@ -151,5 +162,8 @@ fn over_accepted<I: Source, O: Sink>(
         Task::Check => check(alloc, file, out),
         Task::Run { nodes, .. } => run(alloc, file, nodes, input, out),
         Task::Verify { name, nodes } => verify(alloc, file, name.as_bytes(), nodes, out),
+        Task::Same { one, two, nodes } => {
+            same(alloc, file, one.as_bytes(), two.as_bytes(), nodes, out)
+        }
     }
 }

@@ -9,7 +9,6 @@ use Rattle.cb_dd.specs.Diagram.{Store, IsNode, function_of}
 use Rattle.cb_dd.proofs.Diagrams.{function_of-append, function_of-zero, function_of-one}
 use Rattle.cb_ops.specs.Ops.{Grows, Agree, DependsOn, Room}
 use Rattle.cb_verify.specs.Nodes.{AreNodes, node_bits, DependOn, Adds}
-use Rattle.cb_verify.proofs.Assignments.{first_bits-push}
 
 -- a node stays a node
 pub node-kept : (s t : Store) → Grows s t → (n : ℕ) → IsNode s.triples n → IsNode t.triples n
@@ -67,12 +66,6 @@ pub ruleset constants = (function_of-zero, function_of-one)
 -- one more node in a grown store
 pub nodes-push : (s t : Store) → Grows s t → (ns : List Node) (n : Node) → AreNodes s.triples ns → IsNode t.triples n.0 → AreNodes t.triples (ns ++ n ∷ [])
 nodes-push s t g ns n h w = AreNodes-push t.triples ns n (AreNodes-kept s t g ns h) w
-
--- the literal of the next level
-pub literals-bits : (s t : Store) → Grows s t → (ns : List Node) (n : Node) (k : ℕ) → AreNodes s.triples ns → ((a : Bits) → node_bits s.triples ns a ≡ first_bits k a)
-    → ((a : Bits) → function_of t.triples n.0 a ≡ a k) → (a : Bits) → node_bits t.triples (ns ++ n ∷ []) a ≡ first_bits (k + 1) a
-literals-bits s t g ns n k are bits made a =
-    map_push (λ m. function_of t.triples m.0 a) ns n ∙ (λ j. (node_bits-kept s t g ns are a ∙ bits a) j ++ made a j ∷ []) ∙ sym (first_bits-push k a)
 
 -- the literal of the next of these levels
 pub literal-next : (s t : Store) → Grows s t → (ns : List Node) (n : Node) (ls : List ℕ) (i : ℕ) → i < length ls → AreNodes s.triples ns → ((a : Bits) → node_bits s.triples ns a ≡ map a (take i ls))

@@ -1,8 +1,6 @@
 -- What the nodes of a comparison stand for.
 use Rattle.std.specs.Prelude.{◌≡◌, ℕ, ◌+◌, ◌*◌, ◌^◌, ◌≤◌, Bool, false, ◌&&◌, ◌||◌, List, ◌∷◌, map, length, slice_index_or, get_or, take, ◌<◌, ◌≢◌}
-use Rattle.cb_model.specs.declared.Circuit.{Circuit}
-use Rattle.cb_model.specs.Bits.{Bits, Each, xor, all_of, some_of, odd_of, first_bits}
-use Rattle.cb_model.specs.Circuits.{Consistent}
+use Rattle.cb_model.specs.Bits.{Bits, Each, xor, all_of, some_of, odd_of}
 use Rattle.cb_dd.specs.declared.Node.{Node}
 use Rattle.cb_dd.specs.declared.Triple.{Triple}
 use Rattle.cb_dd.specs.Diagram.{Store, IsNode, function_of}
@@ -38,10 +36,6 @@ abbrev pub chain_value : Operator → List Bool → Bool
 chain_value operator.And xs = all_of xs
 chain_value operator.Or xs = some_of xs
 chain_value operator.Xor xs = odd_of xs
-
--- at each assignment the nodes have the bits that a consistent valuation gives the nets
-pub record AreNets (ts : List Triple) (c : Circuit) (ns : List Node) : Type 0 where
-  pub bits : (a : Bits) (v : List Bool) → Consistent c (first_bits c.inputs a) v → node_bits ts ns a ≡ v
 
 -- whether the two lists differ in some place
 abbrev pub unequal : List Bool → List Bool → Bool

@@ -1,7 +1,7 @@
 -- What the verdict of a comparison says.
-use Rattle.std.specs.Prelude.{◌≡◌, ℕ, ◌<◌, ◌≤◌, ◌-◌, Bool, true, false, List, map, length}
+use Rattle.std.specs.Prelude.{◌≡◌, ℕ, ◌≤◌, ◌-◌, Bool, true, false, List, map}
 use Rattle.cb_model.specs.declared.Circuit.{Circuit}
-use Rattle.cb_model.specs.Bits.{Bits, bits_of, weight}
+use Rattle.cb_model.specs.Bits.{Bits, weight}
 use Rattle.cb_model.specs.Circuits.{Agrees, LeastDifference}
 use Rattle.cb_dd.specs.declared.Node.{Node}
 use Rattle.cb_dd.specs.declared.Triple.{Triple}
@@ -15,14 +15,7 @@ IsRight c Wanted verdict.Verified = Agrees c Wanted
 IsRight c Wanted (verdict.Differs input output got wanted) =
     (1 ≤ output) × LeastDifference c Wanted input (output - 1) got wanted
 
--- the same of the nodes of the outputs and of what is wanted, over so many levels
-abbrev pub IsLeast : List Triple → ℕ → List Node → List Node → Verdict → Type 0
-IsLeast ts n gots wants verdict.Verified = (a : Bits) → unequal (node_bits ts gots a) (node_bits ts wants a) ≡ false
-IsLeast ts n gots wants (verdict.Differs input output got wanted) =
-    (1 ≤ output) × (length input ≡ n) × IsFirst (node_bits ts gots (bits_of input)) (node_bits ts wants (bits_of input)) (output - 1) got wanted ×
-    ((other : List Bool) → length other ≡ n → weight other < weight input → unequal (node_bits ts gots (bits_of other)) (node_bits ts wants (bits_of other)) ≡ false)
-
--- the same where the inputs have these levels
+-- the same of the nodes of the outputs and of what is wanted, where the inputs have these levels
 abbrev pub IsLeastOver : List Triple → List ℕ → List Node → List Node → Verdict → Type 0
 IsLeastOver ts ls gots wants verdict.Verified = (a : Bits) → unequal (node_bits ts gots a) (node_bits ts wants a) ≡ false
 IsLeastOver ts ls gots wants (verdict.Differs input output got wanted) =

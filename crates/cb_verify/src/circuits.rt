@@ -1,34 +1,12 @@
 ghost use Rattle.std.specs.Prelude.{◌≡◌, ◌+◌, ◌*◌, ◌^◌, ◌<◌, ◌≤◌, ◌≢◌, Bool, List, IfOk, map, length};
-ghost use Rattle.cb_model.specs.Bits.{Bits, Each, first_bits};
-ghost use Rattle.cb_model.specs.Sound.{IsSound};
-ghost use Rattle.cb_model.specs.Room.{circuit_pins};
+ghost use Rattle.cb_model.specs.Bits.{Bits, Each};
 ghost use Rattle.cb_dd.specs.Diagram.{IsNode, function_of};
 ghost use Rattle.cb_ops.specs.Ops.{Grows};
-ghost use Rattle.cb_verify.specs.Nodes.{AreNodes, AreNets, node_at, node_bits};
+ghost use Rattle.cb_verify.specs.Nodes.{AreNodes, node_at, node_bits};
 
-use crate::nodes::gate;
 use cb_dd::{Node, Stop};
-use cb_model::Circuit;
 use cb_ops::Ops;
 use std::alloc::Global;
-
-/// The nodes whose functions are the bits at the first levels.
-pub fn literals(alloc: Global, ops: &mut Ops, count: u32) -> Result<Vec<Node>, Stop>
-    ensures nodes { IfOk result (λ ns. AreNodes ops.new.triples ns.items) }
-    ensures bits { IfOk result (λ ns. (a : Bits) → node_bits ops.new.triples ns.items a ≡ first_bits count a) }
-    ensures grows { Grows ops.old ops.new }
-    ensures room { length ops.new.triples ≤ length ops.old.triples + count }
-    ensures full { result ≡ Err Stop.Nodes → length ops.new.triples ≡ ops.new.budget }
-{
-    let mut nodes = Vec::new(alloc);
-    for level in 0..count {
-        let node = ops.node(level, Node::ZERO, Node::ONE)?;
-        let Ok(_) = nodes.push(node) else {
-            return Err(Stop::Memory);
-        };
-    }
-    Ok(nodes)
-}
 
 /// The nodes whose functions are the bits at these levels.
 pub fn literals_at(alloc: Global, ops: &mut Ops, levels: &[u32]) -> Result<Vec<Node>, Stop>
@@ -61,25 +39,4 @@ pub fn nodes_at(alloc: Global, nodes: &[Node], nets: &[u32]) -> Result<Vec<Node>
         };
     }
     Ok(found)
-}
-
-/// A node for each net, gate by gate.
-pub fn net_nodes(alloc: Global, ops: &mut Ops, circuit: &Circuit) -> Result<Vec<Node>, Stop>
-    requires sound { IsSound circuit.now }
-    ensures nodes { IfOk result (λ ns. AreNodes ops.new.triples ns.items) }
-    ensures nets { IfOk result (λ ns. AreNets ops.new.triples circuit.now ns.items) }
-    ensures count { IfOk result (λ ns. length ns.items ≡ circuit.now.nets) }
-    ensures grows { Grows ops.old ops.new }
-    ensures room { length ops.new.triples ≤ length ops.old.triples + circuit.now.inputs + circuit_pins circuit.now * (2 * 2 ^ circuit.now.inputs) }
-    ensures full { result ≡ Err Stop.Nodes → length ops.new.triples ≡ ops.new.budget }
-{
-    let mut nodes = literals(alloc, ops, circuit.inputs)?;
-    for part in circuit.gates.as_slice() {
-        let pins = nodes_at(alloc, &nodes, part.ins.as_slice())?;
-        let node = gate(ops, part.kind, &pins)?;
-        let Ok(_) = nodes.push(node) else {
-            return Err(Stop::Memory);
-        };
-    }
-    Ok(nodes)
 }

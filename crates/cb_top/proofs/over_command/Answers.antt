@@ -1,17 +1,12 @@
 use Rattle.std.proofs.Common.{◌≡◌, Some, ap, rules}
 use Rattle.std.specs.Option.{option_map}
 use Rattle.cb_lines.specs.Words.{command_view}
-use Rattle.cb_lines.specs.declared.words.Command.TheVariants.{Same, Make}
+use Rattle.cb_lines.specs.declared.words.Command.TheVariants.{Make}
 use Rattle.cb_top.proofs.Ending.{usage-ran, unbuilt-ran}
 use Rattle.cb_top.proofs.over_command.Goals as goal
 
 pub returns-in-None-clause-ran : goal.returns-in-None-clause-ran
 returns-in-None-clause-ran g c = usage-ran _ _ _ _ _ _ (ap (option_map command_view) c.in-None.is) c.finish.ensures.written
-
-pub returns-in-Some-Same-clause-ran : goal.returns-in-Some-Same-clause-ran
-returns-in-Some-Same-clause-ran g c =
-    let k : c.args.command ≡ Some (Same c.in-Some-Same.field-0-0 c.in-Some-Same.field-0-1 c.in-Some-Same.field-0-2 c.in-Some-Same.field-0-3) = search rules in
-    unbuilt-ran _ _ _ _ _ _ _ (ap (option_map command_view) k) (λ h. h) (λ file input lines o h. h) c.finish-in-Some-Same.ensures.written
 
 pub returns-in-Some-Make-clause-ran : goal.returns-in-Some-Make-clause-ran
 returns-in-Some-Make-clause-ran g c =

@@ -1,9 +1,0 @@
-pub mod Places
-pub mod Flattened
-pub mod Firsts
-pub mod Stops
-pub mod Forms
-pub mod FormSteps
-pub mod NetSteps
-pub mod NumberSteps
-pub mod FirstSteps
