@@ -5,6 +5,7 @@
 mod escaped;
 mod made;
 mod told;
+mod unfolded;
 
 use std::alloc::Global;
 use std::io::Write;
@@ -33,6 +34,10 @@ fn tell(alloc: Global, line: &str, out: &mut Vec<u8>) -> Result<(), Fail> {
     if word == "flat" {
         let source = escaped::plain(alloc, rest)?;
         return told::tell_flat(alloc, source.as_slice(), out);
+    }
+    if word == "unfold" {
+        let source = escaped::plain(alloc, rest)?;
+        return unfolded::tell_unfolded(alloc, source.as_slice(), out);
     }
     let Ok(number) = rest.parse::<u32>() else {
         return Ok(());

@@ -3,6 +3,7 @@
 //! the input it left are written. `stdout` was worked out by hand from the rules of the language.
 #![tactic(auto)]
 
+mod circuits;
 mod deep;
 mod escaped;
 mod session;

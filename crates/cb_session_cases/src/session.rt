@@ -1,5 +1,6 @@
 //! Runs one after another, with the file, the input and the failing calls that were set before them.
 
+use crate::circuits::{adder_file, comparator_file, row_file, tower_file};
 use crate::deep::{chain_file, constants_file, product_query};
 use crate::escaped::plain;
 use cb_host::{Load, MemFiles, MemSink, MemSource, read_within};
@@ -40,6 +41,10 @@ impl Session {
             "file_of_spaces" => self.file = spaces(alloc, rest)?,
             "input_of_spaces" => self.input = spaces(alloc, rest)?,
             "file_of_chain" => self.file = chain(alloc, rest)?,
+            "file_of_tower" => self.file = bytes(alloc, tower_file(alloc, count(rest))?)?,
+            "file_of_comparator" => self.file = comparator(alloc, rest)?,
+            "file_of_adder" => self.file = adder(alloc, rest)?,
+            "file_of_row" => self.file = row(alloc, rest)?,
             "file_of_constants" => self.file = constants_file(alloc, count(rest))?,
             "input_of_product" => self.input = product_query(alloc, count(rest))?,
             "failing_read" => self.read = number(rest),
@@ -137,6 +142,41 @@ fn chain(alloc: Global, rest: &str) -> Result<Vec<u8>, Fail> {
     let (gate, more) = rest.split_once(' ').unwrap_or((rest, ""));
     let (inputs, kind) = more.split_once(' ').unwrap_or((more, ""));
     chain_file(alloc, gate, count(inputs), kind == "right")
+}
+
+// The file of a comparator: how many bits, and `right` or `wrong`.
+fn comparator(alloc: Global, rest: &str) -> Result<Vec<u8>, Fail> {
+    let (width, kind) = rest.split_once(' ').unwrap_or((rest, ""));
+    bytes(
+        alloc,
+        comparator_file(alloc, count(width), kind == "right")?,
+    )
+}
+
+// The file of an adder: how many bits, the bit whose carry takes A, and the one whose carry takes B.
+fn adder(alloc: Global, rest: &str) -> Result<Vec<u8>, Fail> {
+    let (width, more) = rest.split_once(' ').unwrap_or((rest, ""));
+    let (with_a, with_b) = more.split_once(' ').unwrap_or((more, ""));
+    bytes(
+        alloc,
+        adder_file(alloc, count(width), count(with_a), count(with_b))?,
+    )
+}
+
+// The file of a row of gates against 0: the gate, how many inputs, and `turned` where the ports run the other way.
+fn row(alloc: Global, rest: &str) -> Result<Vec<u8>, Fail> {
+    let (gate, more) = rest.split_once(' ').unwrap_or((rest, ""));
+    let (inputs, kind) = more.split_once(' ').unwrap_or((more, ""));
+    bytes(
+        alloc,
+        row_file(alloc, gate, count(inputs), kind == "turned")?,
+    )
+}
+
+// The bytes of a text.
+fn bytes(alloc: Global, text: String) -> Result<Vec<u8>, Fail> {
+    let bytes = Vec::from_slice(alloc, text.as_bytes())?;
+    Ok(bytes)
 }
 
 fn count(text: &str) -> u32 {

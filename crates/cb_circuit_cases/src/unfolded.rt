@@ -1,0 +1,72 @@
+//! The nodes of a module's outputs.
+
+ghost use Rattle.std.specs.Prelude.{◌≡◌, ◌<◌, length};
+ghost use Rattle.cb_circuits.specs.At.{flat_at};
+
+use cb_circuits::{Circuits, read_circuits};
+use cb_dd::Node;
+use cb_ops::Ops;
+use cb_syntax::read_clauses;
+use cb_trial::checked::{bit, end, is_here, restrict};
+use cb_verify::unfold;
+use std::alloc::Global;
+use std::io::Write;
+use std::test::Fail;
+
+// The outputs of the last module of a text, where that has two inputs, over the first two levels: of each output the bits
+// where these are 0 and 0, 0 and 1, 1 and 0, 1 and 1.
+pub(crate) fn tell_unfolded(alloc: Global, text: &[u8], out: &mut Vec<u8>) -> Result<(), Fail> {
+    if text.len() > 4_194_304 {
+        return Ok(());
+    }
+    let clauses = read_clauses(alloc, text)?;
+    let circuits = read_circuits(alloc, clauses.as_slice())?;
+    let count = circuits.modules();
+    if count > 0 && circuits.inputs(count - 1) == 2 {
+        tell_of_two(alloc, &circuits, count - 1, out)?;
+    }
+    Ok(())
+}
+
+// The outputs of a module of two inputs.
+fn tell_of_two(
+    alloc: Global,
+    circuits: &Circuits<'_>,
+    m: u32,
+    out: &mut Vec<u8>,
+) -> Result<(), Fail>
+    requires module { m < length circuits.now.modules }
+    requires inputs { (flat_at circuits.now m).inputs ≡ 2 }
+{
+    let mut ops = Ops::new(alloc, 1000)?;
+    let first = bit(&mut ops, 0)?;
+    let second = bit(&mut ops, 1)?;
+    if is_here(&ops, first) && is_here(&ops, second) {
+        let nodes = unfold(alloc, circuits, m, &[first, second], &mut ops)?;
+        for node in nodes.as_slice() {
+            tell_node(&mut ops, *node, out)?;
+        }
+    }
+    end(ops);
+    Ok(())
+}
+
+// The bits of a node at the first two levels.
+fn tell_node(ops: &mut Ops, node: Node, out: &mut Vec<u8>) -> Result<(), Fail> {
+    for first in [false, true] {
+        let side = restrict(ops, node, 0, first)?;
+        for second in [false, true] {
+            let bit = restrict(ops, side, 1, second)?;
+            let text = if bit == Node::ONE {
+                "1"
+            } else if bit == Node::ZERO {
+                "0"
+            } else {
+                "?"
+            };
+            write!(out, "{text}")?;
+        }
+    }
+    writeln!(out)?;
+    Ok(())
+}
