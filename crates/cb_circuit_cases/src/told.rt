@@ -64,20 +64,35 @@ pub(crate) fn tell_last(alloc: Global, text: &[u8], out: &mut Vec<u8>) -> Result
 
 // The circuit of the last module of a text when it is flattened, or why its facts are refused.
 pub(crate) fn tell_flat(alloc: Global, text: &[u8], out: &mut Vec<u8>) -> Result<(), Fail> {
+    if let Some(circuit) = circuit_of(alloc, text, out)? {
+        tell_circuit(&circuit, out)?;
+    }
+    Ok(())
+}
+
+/// The circuit of the last module of a text when it is flattened; where there is none, it writes why its facts are refused.
+pub(crate) fn circuit_of(
+    alloc: Global,
+    text: &[u8],
+    out: &mut Vec<u8>,
+) -> Result<Option<Circuit>, Fail> {
     if text.len() > 4_194_304 {
-        return Ok(());
+        return Ok(None);
     }
     let clauses = read_clauses(alloc, text)?;
     match read_circuits(alloc, clauses.as_slice()) {
         Ok(circuits) => {
             let count = circuits.modules();
-            if count > 0 {
-                tell_circuit(&circuits.flat(alloc, count - 1)?, out)?;
+            if count == 0 {
+                return Ok(None);
             }
+            Ok(Some(circuits.flat(alloc, count - 1)?))
         }
-        Err(error) => writeln!(out, "{error}")?,
+        Err(error) => {
+            writeln!(out, "{error}")?;
+            Ok(None)
+        }
     }
-    Ok(())
 }
 
 // A circuit: its numbers of inputs and nets, the nets of its outputs, and its gates.
