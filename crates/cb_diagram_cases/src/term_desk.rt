@@ -1,9 +1,9 @@
 //! What the words of a line work on.
 
-ghost use Rattle.cb_term_cases.specs.Sound.{IsSound};
+ghost use Rattle.cb_diagram_cases.specs.Sound.{IsSound};
 
-use crate::equal::{chained, make_equal};
-use crate::making::{compound, cons, deep, doubled, is_here, listed, pair, unknown};
+use crate::term_equal::{chained, make_equal};
+use crate::term_making::{compound, cons, deep, doubled, is_here, listed, pair, unknown};
 use cb_heap::{Cell, Heap, Ref};
 use cb_join::Search;
 use cb_trial::text::{push, push_number};

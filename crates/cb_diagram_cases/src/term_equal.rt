@@ -4,9 +4,9 @@ ghost use Rattle.std.specs.Prelude.{◌≡◌, ◌<◌, length, OnSome, IfOk};
 ghost use Rattle.cb_heap.specs.Finite.{AllFinite};
 ghost use Rattle.cb_heap.specs.Heap.{IsHeap};
 ghost use Rattle.cb_heap.specs.Moments.{KeepsMoments};
-ghost use Rattle.cb_term_cases.specs.Sound.{IsSound};
+ghost use Rattle.cb_diagram_cases.specs.Sound.{IsSound};
 
-use crate::making::{is_here, unknown};
+use crate::term_making::{is_here, unknown};
 use cb_heap::{Heap, Ref};
 use cb_join::{Owed, Search, is_finite, join};
 use std::alloc::{AllocError, Global};

@@ -2,7 +2,7 @@
 
 ghost use Rattle.std.specs.Prelude.{◌<◌, ◌↔◌, length, IsTrue};
 ghost use Rattle.cb_heap.specs.Heap.{IsAddable};
-ghost use Rattle.cb_term_cases.specs.Sound.{IsSound};
+ghost use Rattle.cb_diagram_cases.specs.Sound.{IsSound};
 
 use cb_heap::{Cell, Heap, Ref};
 use std::alloc::AllocError;

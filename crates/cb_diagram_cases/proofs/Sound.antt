@@ -3,7 +3,7 @@ use Rattle.std.proofs.Common.{◌≡◌, refl, subst, sym}
 use Rattle.cb_heap.specs.Finite.{AllFinite, ends}
 use Rattle.cb_heap.specs.Heap.{Terms, IsHeap, no_terms}
 use Rattle.cb_heap.proofs.Steps.{no_some}
-use Rattle.cb_term_cases.specs.Sound.{IsSound}
+use Rattle.cb_diagram_cases.specs.Sound.{IsSound}
 
 none-finite : AllFinite no_terms.cells
 none-finite r = ends (λ j child. absurd (no_some _ child.0 refl child.1))
