@@ -4,7 +4,6 @@
 #![tactic(auto)]
 
 mod deep;
-mod escaped;
 mod session;
 
 use session::Session;
