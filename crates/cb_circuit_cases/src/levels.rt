@@ -1,12 +1,12 @@
 //! Orders of levels, and the least inputs of diagrams in them.
 
-ghost use Rattle.std.specs.Prelude.{◌≡◌, ℕ};
+ghost use Rattle.std.specs.Prelude.{ℕ, List, IfOk, IfSome};
 ghost use Rattle.std.specs.List.Sorted.{IsPermutation};
 ghost use Rattle.cb_model.specs.Bits.{numbers};
 ghost use Rattle.cb_levels.specs.Inverse.{IsInverse};
 
 use crate::orders::push_numbers;
-use crate::told::circuit_of;
+use crate::told::last_of;
 use cb_dd::{Node, Stop};
 use cb_least::least_input;
 use cb_levels::{fan_in_order, levels};
@@ -18,17 +18,38 @@ use std::test::Fail;
 
 /// Writes the inputs of the last module of a text in the order of their levels, and the level of each input.
 pub(crate) fn tell_levels(alloc: Global, text: &[u8], out: &mut Vec<u8>) -> Result<(), Fail> {
-    let Some(circuit) = circuit_of(alloc, text, out)? else {
-        return Ok(());
-    };
-    let order = fan_in_order(alloc, &circuit)?;
-    let levels = levels(alloc, order.as_slice())?;
+    match order_of(alloc, text, out)? {
+        Some(order) => push_levels(alloc, order.as_slice(), out),
+        None => Ok(()),
+    }
+}
+
+// Writes inputs in the order of their levels, and the level of each.
+fn push_levels(alloc: Global, order: &[u32], out: &mut Vec<u8>) -> Result<(), Fail>
+    requires { (count : ℕ) × IsPermutation (numbers count) order.now }
+{
+    let levels = levels(alloc, order)?;
     write!(out, "inputs")?;
-    push_numbers(order.as_slice(), out)?;
+    push_numbers(order, out)?;
     write!(out, ", levels")?;
     push_numbers(levels.as_slice(), out)?;
     writeln!(out)?;
     Ok(())
+}
+
+// The inputs of the last module of a text in the order of their levels; where there is none, it writes why the facts are
+// refused.
+fn order_of(alloc: Global, text: &[u8], out: &mut Vec<u8>) -> Result<Option<Vec<u32>>, Fail>
+    ensures { IfOk result (λ o. IfSome o (λ v. (count : ℕ) × IsPermutation (numbers count) v.items)) }
+{
+    match last_of(alloc, text, out)? {
+        Some((_, circuit)) => {
+            let order = fan_in_order(alloc, &circuit);
+            drop(circuit);
+            Ok(Some(order?))
+        }
+        None => Ok(None),
+    }
 }
 
 /// Writes the least input at which the sum of some products is 1, where the levels are those of the last module of a text,
@@ -39,10 +60,9 @@ pub(crate) fn tell_least(
     text: &[u8],
     out: &mut Vec<u8>,
 ) -> Result<(), Fail> {
-    let Some(circuit) = circuit_of(alloc, text, out)? else {
+    let Some(order) = order_of(alloc, text, out)? else {
         return Ok(());
     };
-    let order = fan_in_order(alloc, &circuit)?;
     let mut ops = Ops::new(alloc, 1_000_000)?;
     let told = tell_in(alloc, &mut ops, order.as_slice(), products, out);
     end(ops);

@@ -1,8 +1,8 @@
 //! Facts of modules and specifications by numbers.
 
-ghost use Rattle.std.specs.Prelude.{◌≡◌, ◌≤◌, true, length};
+ghost use Rattle.std.specs.Prelude.{◌≡◌, true, map};
 ghost use Rattle.cb_model.specs.Forms.{clause_form, form_of};
-ghost use Rattle.cb_model.specs.Written.{clause_written, is_written};
+ghost use Rattle.cb_model.specs.Written.{AreClauses, clause_written, is_written};
 
 use crate::orders::push_numbers;
 use cb_facts::{RawModule, RawSpec, read_module, read_spec};
@@ -20,7 +20,16 @@ pub(crate) fn tell_heads(alloc: Global, text: &[u8], out: &mut Vec<u8>) -> Resul
         return Ok(());
     }
     let clauses = read_clauses(alloc, text)?;
-    for clause in clauses.as_slice() {
+    let told = tell_clauses(alloc, clauses.as_slice(), out);
+    drop(clauses);
+    told
+}
+
+// The same of clauses.
+fn tell_clauses(alloc: Global, clauses: &[RawClause<'_>], out: &mut Vec<u8>) -> Result<(), Fail>
+    requires { AreClauses 4194304 (map clause_form clauses.now) }
+{
+    for clause in clauses {
         tell_clause(alloc, clause, out)?;
     }
     Ok(())
@@ -41,10 +50,14 @@ fn tell_head(alloc: Global, head: &RawTerm<'_>, out: &mut Vec<u8>) -> Result<(),
     requires { is_written (form_of head.now) ≡ true }
 {
     if let Some(module) = read_module(alloc, head)? {
-        return push_module(&module, out);
+        let told = push_module(&module, out);
+        drop(module);
+        return told;
     }
     if let Some(spec) = read_spec(alloc, head)? {
-        return push_spec(&spec, out);
+        let told = push_spec(&spec, out);
+        drop(spec);
+        return told;
     }
     writeln!(out, "neither")?;
     Ok(())
