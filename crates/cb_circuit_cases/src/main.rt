@@ -1,12 +1,17 @@
-//! Facts of circuits that are read: each line of `cases.txt` has a word and a text or numbers, and what is found there
-//! is written as a line or several. `stdout` was worked out by hand from the rules of circuits.
+//! The kinds of gates, orders, facts of circuits that are read, and circuits that are flattened: each line of `cases.txt`
+//! has a word and a text or numbers, and what is found there is written as a line or several. `stdout` was worked out by
+//! hand from the rules of circuits.
 #![tactic(auto)]
 
-mod escaped;
+mod gates;
+mod levels;
 mod made;
+mod orders;
+mod raw;
 mod told;
 mod unfolded;
 
+use cb_trial::escaped::plain;
 use std::alloc::Global;
 use std::io::Write;
 use std::test::Fail;
@@ -27,21 +32,36 @@ fn tell(alloc: Global, line: &str, out: &mut Vec<u8>) -> Result<(), Fail> {
     let Some((word, rest)) = line.split_once(' ') else {
         return Ok(());
     };
-    if word == "facts" {
-        let source = escaped::plain(alloc, rest)?;
-        return told::tell_facts(alloc, source.as_slice(), out);
+    match word {
+        "kind" => gates::tell_kind(rest, out),
+        "values" => {
+            let (name, ins) = rest.split_once(' ').unwrap_or((rest, ""));
+            gates::tell_values(name, ins.parse().unwrap_or(9), out)
+        }
+        "lists" => orders::tell_lists(alloc, rest, out),
+        "order" => orders::tell_order(alloc, rest, out),
+        "on" | "back" | "round" => {
+            orders::tell_chain(alloc, word, rest.parse().unwrap_or(0), out)
+        }
+        "least" => {
+            let (products, text) = rest.split_once(' ').unwrap_or((rest, ""));
+            levels::tell_least(alloc, products, text.as_bytes(), out)
+        }
+        _ => tell_text(alloc, word, rest, out),
     }
-    if word == "flat" {
-        let source = escaped::plain(alloc, rest)?;
-        return told::tell_flat(alloc, source.as_slice(), out);
+}
+
+// Writes what a line asks for whose word is about a text.
+fn tell_text(alloc: Global, word: &str, rest: &str, out: &mut Vec<u8>) -> Result<(), Fail> {
+    match word {
+        "heads" => raw::tell_heads(alloc, plain(alloc, rest)?.as_slice(), out),
+        "facts" => told::tell_facts(alloc, plain(alloc, rest)?.as_slice(), out),
+        "flat" => told::tell_flat(alloc, plain(alloc, rest)?.as_slice(), out),
+        "levels" => levels::tell_levels(alloc, plain(alloc, rest)?.as_slice(), out),
+        "unfold" => unfolded::tell_unfolded(alloc, plain(alloc, rest)?.as_slice(), out),
+        _ => {
+            let source = made::text(alloc, word, rest.parse().unwrap_or(0))?;
+            told::tell_last(alloc, source.as_bytes(), out)
+        }
     }
-    if word == "unfold" {
-        let source = escaped::plain(alloc, rest)?;
-        return unfolded::tell_unfolded(alloc, source.as_slice(), out);
-    }
-    let Ok(number) = rest.parse::<u32>() else {
-        return Ok(());
-    };
-    let source = made::text(alloc, word, number)?;
-    told::tell_last(alloc, source.as_bytes(), out)
 }

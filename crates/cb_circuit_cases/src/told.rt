@@ -1,29 +1,53 @@
 //! What is told of the facts of a text.
 
-ghost use Rattle.std.specs.Prelude.{◌<◌, length};
+ghost use Rattle.std.specs.Prelude.{◌<◌, length, map};
+ghost use Rattle.cb_model.specs.Forms.{clause_form};
+ghost use Rattle.cb_model.specs.Written.{AreClauses};
 
-use cb_circuits::{Circuits, read_circuits};
-use cb_model::{Circuit, Gate};
+use cb_circuits::{CircError, Circuits, read_circuits};
+use cb_model::{Circuit, Gate, RawClause};
 use cb_syntax::read_clauses;
 use std::alloc::Global;
 use std::io::Write;
 use std::test::Fail;
 
-// The modules and specifications of a text, or why its facts are refused.
+/// Writes the modules of a text, or why its facts are refused.
 pub(crate) fn tell_facts(alloc: Global, text: &[u8], out: &mut Vec<u8>) -> Result<(), Fail> {
     if text.len() > 4_194_304 {
         return Ok(());
     }
     let clauses = read_clauses(alloc, text)?;
-    match read_circuits(alloc, clauses.as_slice()) {
+    let told = tell_clauses(alloc, clauses.as_slice(), out);
+    drop(clauses);
+    told
+}
+
+// The same of clauses.
+fn tell_clauses(alloc: Global, clauses: &[RawClause<'_>], out: &mut Vec<u8>) -> Result<(), Fail>
+    requires { AreClauses 4194304 (map clause_form clauses.now) }
+{
+    match read_circuits(alloc, clauses) {
         Ok(circuits) => {
-            for m in 0..circuits.modules() {
-                tell_module(&circuits, m, out)?;
-            }
-            writeln!(out, "end")?;
+            let told = push_modules(&circuits, out);
+            drop(circuits);
+            told
         }
-        Err(error) => writeln!(out, "{error}")?,
+        Err(error) => refuse(error, out),
     }
+}
+
+// Writes why facts are refused.
+fn refuse(error: CircError, out: &mut Vec<u8>) -> Result<(), Fail> {
+    writeln!(out, "{error}")?;
+    Ok(())
+}
+
+// Writes modules.
+fn push_modules(circuits: &Circuits<'_>, out: &mut Vec<u8>) -> Result<(), Fail> {
+    for m in 0..circuits.modules() {
+        tell_module(circuits, m, out)?;
+    }
+    writeln!(out, "end")?;
     Ok(())
 }
 
@@ -42,42 +66,72 @@ fn tell_module(circuits: &Circuits<'_>, m: u32, out: &mut Vec<u8>) -> Result<(),
     Ok(())
 }
 
-// The last module of a text, flattened: how many gates and nets it has; or why its facts are refused.
+/// Writes how many modules a text has, and how many gates and nets its last one has when it is flattened; or why its
+/// facts are refused.
 pub(crate) fn tell_last(alloc: Global, text: &[u8], out: &mut Vec<u8>) -> Result<(), Fail> {
-    if text.len() > 4_194_304 {
-        return Ok(());
-    }
-    let clauses = read_clauses(alloc, text)?;
-    match read_circuits(alloc, clauses.as_slice()) {
-        Ok(circuits) => {
-            let count = circuits.modules();
-            if count > 0 {
-                let gates = circuits.gates(count - 1);
-                let nets = circuits.flat(alloc, count - 1)?.nets;
-                writeln!(out, "{count} modules, gates {gates}, nets {nets}")?;
-            }
-        }
-        Err(error) => writeln!(out, "{error}")?,
+    if let Some((count, circuit)) = last_of(alloc, text, out)? {
+        let gates = circuit.gates.len();
+        let nets = circuit.nets;
+        drop(circuit);
+        writeln!(out, "{count} modules, gates {gates}, nets {nets}")?;
     }
     Ok(())
 }
 
-// The circuit of the last module of a text when it is flattened, or why its facts are refused.
+/// Writes the circuit of the last module of a text when it is flattened, or why its facts are refused.
 pub(crate) fn tell_flat(alloc: Global, text: &[u8], out: &mut Vec<u8>) -> Result<(), Fail> {
-    if text.len() > 4_194_304 {
-        return Ok(());
-    }
-    let clauses = read_clauses(alloc, text)?;
-    match read_circuits(alloc, clauses.as_slice()) {
-        Ok(circuits) => {
-            let count = circuits.modules();
-            if count > 0 {
-                tell_circuit(&circuits.flat(alloc, count - 1)?, out)?;
-            }
-        }
-        Err(error) => writeln!(out, "{error}")?,
+    if let Some((_, circuit)) = last_of(alloc, text, out)? {
+        let told = tell_circuit(&circuit, out);
+        drop(circuit);
+        return told;
     }
     Ok(())
+}
+
+/// How many modules a text has, and the circuit of the last one when it is flattened; where there is none, it writes why
+/// the facts are refused.
+pub(crate) fn last_of(
+    alloc: Global,
+    text: &[u8],
+    out: &mut Vec<u8>,
+) -> Result<Option<(u32, Circuit)>, Fail> {
+    if text.len() > 4_194_304 {
+        return Ok(None);
+    }
+    let clauses = read_clauses(alloc, text)?;
+    let found = last_in(alloc, clauses.as_slice(), out);
+    drop(clauses);
+    found
+}
+
+// The same of clauses.
+fn last_in(
+    alloc: Global,
+    clauses: &[RawClause<'_>],
+    out: &mut Vec<u8>,
+) -> Result<Option<(u32, Circuit)>, Fail>
+    requires { AreClauses 4194304 (map clause_form clauses.now) }
+{
+    match read_circuits(alloc, clauses) {
+        Ok(circuits) => {
+            let found = last(alloc, &circuits);
+            drop(circuits);
+            found
+        }
+        Err(error) => {
+            refuse(error, out)?;
+            Ok(None)
+        }
+    }
+}
+
+// The same of circuits.
+fn last(alloc: Global, circuits: &Circuits<'_>) -> Result<Option<(u32, Circuit)>, Fail> {
+    let count = circuits.modules();
+    if count == 0 {
+        return Ok(None);
+    }
+    Ok(Some((count, circuits.flat(alloc, count - 1)?)))
 }
 
 // A circuit: its numbers of inputs and nets, the nets of its outputs, and its gates.

@@ -1,12 +1,16 @@
-//! Diagrams, the operations on them, their products and their texts, tried from outside. A line of `cases.txt` begins with
-//! how many nodes a store may hold; the words behind it work on a stack of its nodes, and what they tell is written as a
-//! line. `stdout` was worked out by hand.
+//! Diagrams, the operations on them, their products and their texts, and run-time terms, tried from outside. A line of
+//! `cases.txt` begins with how many nodes a store may hold; the words behind it work on a stack of its nodes, and what they
+//! tell is written as a line. The words of a line of `terms.txt` work on a stack of cells. `stdout` was worked out by hand.
 #![tactic(auto)]
 
 mod desk;
 mod making;
 mod shown;
 mod telling;
+mod term_desk;
+mod term_equal;
+mod term_making;
+mod terms;
 
 use cb_ops::Ops;
 use cb_trial::checked::end;
@@ -22,6 +26,10 @@ fn main(rt: HostRuntime) -> Result<(), Fail> {
     let mut out = Vec::new(rt.alloc());
     for line in cases.lines() {
         tell(rt.alloc(), line, &mut out)?;
+    }
+    let cells = fs::read_to_string(&rt, "terms.txt")?;
+    for line in cells.lines() {
+        terms::tell(rt.alloc(), line, &mut out)?;
     }
     io::writer(&rt).write_all(&out)?;
     Ok(())

@@ -41,10 +41,17 @@ fn tell_spaces(alloc: Global, times: u32, out: &mut Vec<u8>) -> Result<(), Fail>
 // Writes how many constants a directive with so many declares and the last, or its refusal.
 fn tell_constants(alloc: Global, times: u32, out: &mut Vec<u8>) -> Result<(), Fail> {
     let text = constants(alloc, times)?;
+    let told = tell_declared(alloc, text.as_slice(), out);
+    drop(text);
+    told
+}
+
+// The same of a file.
+fn tell_declared(alloc: Global, text: &[u8], out: &mut Vec<u8>) -> Result<(), Fail> {
     if text.len() > 4_194_304 {
         return Ok(());
     }
-    match program(alloc, text.as_slice()) {
+    match program(alloc, text) {
         Ok(Ok(loaded)) => {
             let told = push_constants(alloc, out, &loaded);
             drop(loaded);
@@ -86,10 +93,17 @@ fn tell_nested(
     out: &mut Vec<u8>,
 ) -> Result<(), Fail> {
     let text = nested(alloc, times, parts)?;
+    let told = tell_read(alloc, text.as_slice(), out);
+    drop(text);
+    told
+}
+
+// Writes how many clauses a text has, or its refusal.
+fn tell_read(alloc: Global, text: &[u8], out: &mut Vec<u8>) -> Result<(), Fail> {
     if text.len() > 4_194_304 {
         return Ok(());
     }
-    match read_clauses(alloc, text.as_slice()) {
+    match read_clauses(alloc, text) {
         Ok(clauses) => {
             let count = i64::try_from(clauses.len()).unwrap_or(0);
             drop(clauses);

@@ -31,38 +31,43 @@ fn main(rt: HostRuntime) -> Result<(), Fail> {
     Ok(())
 }
 
-// Writes what a line asks for. The text of a line with the word `program` is kept for the lines with `ask` behind it.
+// Writes what a line asks for.
 fn tell(alloc: Global, line: &str, file: &mut Vec<u8>, out: &mut Vec<u8>) -> Result<(), Fail> {
     let Some((word, rest)) = line.split_once(' ') else {
         return Ok(());
     };
     let source = escaped::plain(alloc, rest)?;
+    let told = tell_source(alloc, (word, rest), source.as_slice(), file, out);
+    drop(source);
+    told
+}
+
+// Writes what a line with a word asks of a text. The text of a line with the word `program` is kept for the lines with
+// `ask` behind it.
+fn tell_source(
+    alloc: Global,
+    line: (&str, &str),
+    source: &[u8],
+    file: &mut Vec<u8>,
+    out: &mut Vec<u8>,
+) -> Result<(), Fail> {
+    let (word, rest) = line;
     if word == "program" {
         file.clear();
-        file.extend_from_slice(source.as_slice())?;
+        file.extend_from_slice(source)?;
     }
     if source.len() > 4_194_304 || file.len() > 4_194_304 {
         return Ok(());
     }
-    if word == "tokens" {
-        return tokens::tell(alloc, source.as_slice(), out);
+    match word {
+        "tokens" => tokens::tell(alloc, source, out),
+        "clauses" => forms::tell_clauses(alloc, source, out),
+        "queries" => forms::tell_queries(alloc, source, out),
+        "load" => told::tell_count(alloc, source, out),
+        "program" => told::tell_program(alloc, source, out),
+        "ask" => told::tell_query(alloc, file.as_slice(), source, out),
+        _ => made::tell(alloc, word, rest, out),
     }
-    if word == "clauses" {
-        return forms::tell_clauses(alloc, source.as_slice(), out);
-    }
-    if word == "queries" {
-        return forms::tell_queries(alloc, source.as_slice(), out);
-    }
-    if word == "load" {
-        return told::tell_count(alloc, source.as_slice(), out);
-    }
-    if word == "program" {
-        return told::tell_program(alloc, source.as_slice(), out);
-    }
-    if word == "ask" {
-        return told::tell_query(alloc, file.as_slice(), source.as_slice(), out);
-    }
-    made::tell(alloc, word, rest, out)
 }
 
 // The program of a file.

@@ -1,7 +1,8 @@
 //! Terms and goals of programs and queries.
 
-use cb_model::{Expr, Goal, Tree};
+use cb_model::{Goal, Tree};
 use cb_sorts::{Program, Query};
+use cb_trial::exprs::{push_expr, push_exprs};
 use cb_trial::text::{push, push_number};
 use std::alloc::Global;
 use std::test::Fail;
@@ -96,9 +97,9 @@ fn push_tree(
     tree: &Tree,
 ) -> Result<(), Fail> {
     match tree {
-        Tree::Leaf(expr) => push_expr(alloc, out, expr),
+        Tree::Leaf(expr) => push_expr(out, expr),
         Tree::Bus(bits, tail) => {
-            push_exprs(alloc, out, "bus", bits.as_slice())?;
+            push_exprs(out, "bus", bits.as_slice())?;
             match tail {
                 Some(tail) => {
                     push(out, "|b")?;
@@ -117,41 +118,4 @@ fn push_tree(
             push_trees(alloc, out, names, args.as_slice())
         }
     }
-}
-
-// Appends an expression: `c` or `v` with the number of a constant or a variable, `0` or `1`, or an operator before its
-// operands.
-#[cycle(exprs)]
-fn push_expr(alloc: Global, out: &mut Vec<u8>, expr: &Expr) -> Result<(), Fail> {
-    match expr {
-        Expr::Zero => push(out, "zero"),
-        Expr::One => push(out, "one"),
-        Expr::Const(number) => {
-            push(out, "c")?;
-            push_number(alloc, out, i64::from(*number))
-        }
-        Expr::Var(number) => {
-            push(out, "v")?;
-            push_number(alloc, out, i64::from(*number))
-        }
-        Expr::Not(operand) => {
-            push(out, "not ")?;
-            push_expr(alloc, out, operand.get())
-        }
-        Expr::And(operands) => push_exprs(alloc, out, "and", operands.as_slice()),
-        Expr::Xor(operands) => push_exprs(alloc, out, "xor", operands.as_slice()),
-        Expr::Or(operands) => push_exprs(alloc, out, "or", operands.as_slice()),
-    }
-}
-
-// Appends expressions behind a word.
-#[cycle(exprs)]
-fn push_exprs(alloc: Global, out: &mut Vec<u8>, word: &str, exprs: &[Expr]) -> Result<(), Fail> {
-    push(out, word)?;
-    push(out, "(")?;
-    for expr in exprs {
-        push_expr(alloc, out, expr)?;
-        push(out, " ")?;
-    }
-    push(out, ")")
 }

@@ -5,7 +5,6 @@
 
 mod circuits;
 mod deep;
-mod escaped;
 mod session;
 
 use session::Session;

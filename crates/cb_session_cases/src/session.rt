@@ -2,10 +2,11 @@
 
 use crate::circuits::{adder_file, comparator_file, row_file, tower_file};
 use crate::deep::{chain_file, constants_file, product_query};
-use crate::escaped::plain;
 use cb_host::{Load, MemFiles, MemSink, MemSource, read_within};
 use cb_top::chipbool;
+use cb_trial::escaped::plain;
 use std::alloc::Global;
+use std::io::Write;
 use std::test::Fail;
 
 /// What is set for the next runs, and what was written so far.
@@ -60,27 +61,38 @@ impl Session {
     // Runs words, and writes what they print, their status and how many bytes of the input are left.
     fn run(&mut self, alloc: Global, line: &str) -> Result<(), Fail> {
         let mut out = MemSink::new(alloc, 20_000, 7, [self.write].to_vec(alloc)?)?;
-        let bytes = Vec::from_slice(alloc, self.input.as_slice())?;
-        let mut input = MemSource::new(bytes, 1000, [self.read].to_vec(alloc)?);
-        let status = status_of(alloc, line, self.file.as_slice(), &mut input, &mut out)?;
+        let told = self.run_into(alloc, line, &mut out);
+        drop(out);
+        told
+    }
+
+    // The same over a sink.
+    fn run_into(&mut self, alloc: Global, line: &str, out: &mut MemSink) -> Result<(), Fail> {
+        let mut input = source(alloc, self.input.as_slice(), [self.read].as_slice())?;
+        let status = status_of(alloc, line, self.file.as_slice(), &mut input, out);
         let rest = rest_of(alloc, &mut input);
+        drop(input);
+        let status = status?;
         self.out.extend_from_slice(out.written())?;
-        let end = format!(in alloc; "status {status}, left {rest}\n")?;
-        self.out.extend_from_slice(end.as_bytes())?;
+        writeln!(self.out, "status {status}, left {rest}")?;
         Ok(())
     }
 
     // Runs words, and writes the first 40 bytes of what they print, how many bytes that is, and their status.
     fn run_long(&mut self, alloc: Global, line: &str) -> Result<(), Fail> {
         let mut out = MemSink::new(alloc, 2_000_000, 100_000, Vec::new(alloc))?;
-        let bytes = Vec::from_slice(alloc, self.input.as_slice())?;
-        let mut input = MemSource::new(bytes, 1000, Vec::new(alloc));
-        let status = status_of(alloc, line, self.file.as_slice(), &mut input, &mut out)?;
+        let told = self.run_long_into(alloc, line, &mut out);
+        drop(out);
+        told
+    }
+
+    // The same over a sink.
+    fn run_long_into(&mut self, alloc: Global, line: &str, out: &mut MemSink) -> Result<(), Fail> {
+        let status = self.status(alloc, line, out)?;
         let printed = out.written();
         let length = printed.len();
         self.out.extend_from_slice(&printed[..length.min(40)])?;
-        let end = format!(in alloc; "|{length} bytes, status {status}\n")?;
-        self.out.extend_from_slice(end.as_bytes())?;
+        writeln!(self.out, "|{length} bytes, status {status}")?;
         Ok(())
     }
 
@@ -88,19 +100,43 @@ impl Session {
     // makes no such write; writes what each run printed, as a line of its own, and the statuses of the runs.
     fn run_with_each_write(&mut self, alloc: Global, line: &str) -> Result<(), Fail> {
         for k in 1..1000 {
-            let mut out = MemSink::new(alloc, 1000, 1, [k].to_vec(alloc)?)?;
-            let bytes = Vec::from_slice(alloc, self.input.as_slice())?;
-            let mut input = MemSource::new(bytes, 1000, Vec::new(alloc));
-            let status = status_of(alloc, line, self.file.as_slice(), &mut input, &mut out)?;
-            self.out.extend_from_slice(out.written())?;
-            let end = format!(in alloc; "|{status}\n")?;
-            self.out.extend_from_slice(end.as_bytes())?;
-            if status != 4 {
+            if self.run_with_write(alloc, line, k)? != 4 {
                 break;
             }
         }
         Ok(())
     }
+
+    // The same with the write of one number failing; the status.
+    fn run_with_write(&mut self, alloc: Global, line: &str, k: u64) -> Result<u8, Fail> {
+        let mut out = MemSink::new(alloc, 1000, 1, [k].to_vec(alloc)?)?;
+        let status = self.run_short_into(alloc, line, &mut out);
+        drop(out);
+        status
+    }
+
+    // The same over a sink.
+    fn run_short_into(&mut self, alloc: Global, line: &str, out: &mut MemSink) -> Result<u8, Fail> {
+        let status = self.status(alloc, line, out)?;
+        self.out.extend_from_slice(out.written())?;
+        writeln!(self.out, "|{status}")?;
+        Ok(status)
+    }
+
+    // The status of a run over the file and the input, none of whose reads fails.
+    fn status(&self, alloc: Global, line: &str, out: &mut MemSink) -> Result<u8, Fail> {
+        let mut input = source(alloc, self.input.as_slice(), [].as_slice())?;
+        let status = status_of(alloc, line, self.file.as_slice(), &mut input, out);
+        drop(input);
+        status
+    }
+}
+
+// A source of these bytes, whose calls with these numbers fail.
+fn source(alloc: Global, bytes: &[u8], failing: &[u64]) -> Result<MemSource, Fail> {
+    let failing = failing.to_vec(alloc)?;
+    let bytes = bytes.to_vec(alloc)?;
+    Ok(MemSource::new(bytes, 1000, failing))
 }
 
 // The status of a run whose file `F` has these bytes.
@@ -112,14 +148,41 @@ fn status_of(
     out: &mut MemSink,
 ) -> Result<u8, Fail> {
     let mut words = Vec::new(alloc);
+    let status = match push_words(alloc, line, &mut words) {
+        Ok(()) => status_over(alloc, words.as_slice(), file, input, out),
+        Err(error) => Err(error),
+    };
+    drop(words);
+    status
+}
+
+// Appends the words of a line.
+fn push_words(alloc: Global, line: &str, words: &mut Vec<String>) -> Result<(), Fail> {
     for word in line.split_whitespace() {
         words.push(String::from_str(alloc, word)?)?;
     }
+    Ok(())
+}
+
+// The status of a run of these words.
+fn status_over(
+    alloc: Global,
+    words: &[String],
+    file: &[u8],
+    input: &mut MemSource,
+    out: &mut MemSink,
+) -> Result<u8, Fail> {
+    let mut files = files(alloc, file)?;
+    let outcome = chipbool(alloc, words, &mut files, input, out);
+    drop(files);
+    Ok(outcome.status())
+}
+
+// The files of a run: `F` with these bytes.
+fn files(alloc: Global, file: &[u8]) -> Result<MemFiles, Fail> {
     let mut list = Vec::new(alloc);
     list.push((String::from_str(alloc, "F")?, Vec::from_slice(alloc, file)?))?;
-    let mut files = MemFiles::new(list, Vec::new(alloc));
-    let outcome = chipbool(alloc, words.as_slice(), &mut files, input, out);
-    Ok(outcome.status())
+    Ok(MemFiles::new(list, Vec::new(alloc)))
 }
 
 // How many bytes are left of an input, one of whose calls may still fail.
