@@ -1,10 +1,13 @@
 //! The nodes of a module's outputs.
 
-ghost use Rattle.std.specs.Prelude.{◌≡◌, ◌<◌, length};
+ghost use Rattle.std.specs.Prelude.{◌≡◌, ◌<◌, length, map};
+ghost use Rattle.cb_model.specs.Forms.{clause_form};
+ghost use Rattle.cb_model.specs.Written.{AreClauses};
 ghost use Rattle.cb_circuits.specs.At.{flat_at};
 
 use cb_circuits::{Circuits, read_circuits};
 use cb_dd::Node;
+use cb_model::RawClause;
 use cb_ops::Ops;
 use cb_syntax::read_clauses;
 use cb_trial::checked::{bit, end, is_here, restrict};
@@ -20,10 +23,26 @@ pub(crate) fn tell_unfolded(alloc: Global, text: &[u8], out: &mut Vec<u8>) -> Re
         return Ok(());
     }
     let clauses = read_clauses(alloc, text)?;
-    let circuits = read_circuits(alloc, clauses.as_slice())?;
+    let told = tell_clauses(alloc, clauses.as_slice(), out);
+    drop(clauses);
+    told
+}
+
+// The same of clauses.
+fn tell_clauses(alloc: Global, clauses: &[RawClause<'_>], out: &mut Vec<u8>) -> Result<(), Fail>
+    requires { AreClauses 4194304 (map clause_form clauses.now) }
+{
+    let circuits = read_circuits(alloc, clauses)?;
+    let told = tell_last(alloc, &circuits, out);
+    drop(circuits);
+    told
+}
+
+// The same of circuits.
+fn tell_last(alloc: Global, circuits: &Circuits<'_>, out: &mut Vec<u8>) -> Result<(), Fail> {
     let count = circuits.modules();
     if count > 0 && circuits.inputs(count - 1) == 2 {
-        tell_of_two(alloc, &circuits, count - 1, out)?;
+        return tell_of_two(alloc, circuits, count - 1, out);
     }
     Ok(())
 }
@@ -39,15 +58,30 @@ fn tell_of_two(
     requires inputs { (flat_at circuits.now m).inputs ≡ 2 }
 {
     let mut ops = Ops::new(alloc, 1000)?;
-    let first = bit(&mut ops, 0)?;
-    let second = bit(&mut ops, 1)?;
-    if is_here(&ops, first) && is_here(&ops, second) {
-        let nodes = unfold(alloc, circuits, m, &[first, second], &mut ops)?;
+    let told = tell_over(alloc, circuits, m, &mut ops, out);
+    end(ops);
+    told
+}
+
+// The same in a store of nodes.
+fn tell_over(
+    alloc: Global,
+    circuits: &Circuits<'_>,
+    m: u32,
+    ops: &mut Ops,
+    out: &mut Vec<u8>,
+) -> Result<(), Fail>
+    requires module { m < length circuits.now.modules }
+    requires inputs { (flat_at circuits.now m).inputs ≡ 2 }
+{
+    let first = bit(ops, 0)?;
+    let second = bit(ops, 1)?;
+    if is_here(ops, first) && is_here(ops, second) {
+        let nodes = unfold(alloc, circuits, m, &[first, second], ops)?;
         for node in nodes.as_slice() {
-            tell_node(&mut ops, *node, out)?;
+            tell_node(ops, *node, out)?;
         }
     }
-    end(ops);
     Ok(())
 }
 
