@@ -31,9 +31,9 @@ use Rattle.cb_model.specs.Facts as facts
 use Rattle.cb_model.specs.Facts.{Circuits, FactRefusal, FactsRead, no_circuits}
 use Rattle.cb_model.specs.Output as output
 use Rattle.cb_model.specs.Output.{IsLoaded, FileRefused, unread, fact_refused}
-use Rattle.cb_circuits.specs.declared.reading.CircError.{CircError}
-use Rattle.cb_circuits.specs.declared.reading.CircError.TheVariants as circuit
-use Rattle.cb_circuits.specs.Refused.{RefusesFacts}
+use Rattle.cb_circ.specs.declared.reading.CircError.{CircError}
+use Rattle.cb_circ.specs.declared.reading.CircError.TheVariants as circuit
+use Rattle.cb_circ.specs.Refused.{RefusesFacts}
 use Rattle.cb_accept.specs.Refusals.{AreAccepted, ClausesRefused, directive, rule, a_fact, IsRead}
 use Rattle.cb_accept.specs.declared.Accepted.{Accepted}
 use Rattle.cb_accept.specs.File.{forms, holds, IsAccepted, IsTold, IsLong}

@@ -14,7 +14,7 @@ ghost use Rattle.cb_sorts.specs.Source.{Loads};
 ghost use Rattle.cb_accept.specs.Refusals.{ClausesRefused};
 ghost use Rattle.cb_accept.specs.File.{forms, IsAccepted, IsLoaded, IsLong};
 
-use cb_circuits::{Circuits, read_circuits};
+use cb_circ::{Circuits, read_circuits};
 use cb_host::{Files, Load};
 use cb_known::is_fact;
 use cb_lines::ended::{Ended, Line};

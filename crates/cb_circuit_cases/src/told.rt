@@ -4,7 +4,7 @@ ghost use Rattle.std.specs.Prelude.{◌<◌, length, map};
 ghost use Rattle.cb_model.specs.Forms.{clause_form};
 ghost use Rattle.cb_model.specs.Written.{AreClauses};
 
-use cb_circuits::{CircError, Circuits, read_circuits};
+use cb_circ::{CircError, Circuits, read_circuits};
 use cb_model::{Circuit, Gate, RawClause};
 use cb_syntax::read_clauses;
 use std::alloc::Global;

@@ -3,9 +3,9 @@
 ghost use Rattle.std.specs.Prelude.{◌≡◌, ◌<◌, length, map};
 ghost use Rattle.cb_model.specs.Forms.{clause_form};
 ghost use Rattle.cb_model.specs.Written.{AreClauses};
-ghost use Rattle.cb_circuits.specs.At.{flat_at};
+ghost use Rattle.cb_circ.specs.At.{flat_at};
 
-use cb_circuits::{Circuits, read_circuits};
+use cb_circ::{Circuits, read_circuits};
 use cb_dd::Node;
 use cb_model::RawClause;
 use cb_ops::Ops;

@@ -15,7 +15,7 @@ use Rattle.cb_model.specs.Commands.{Nodes, Max, Only, budget_of}
 use Rattle.cb_model.specs.Verdicts.{Compared, bit_text, at_text, differs_text, port_texts, agrees, differs, stopped}
 use Rattle.cb_model.specs.Room.{expr_size}
 use Rattle.cb_model.specs.Output.{BelowNodes, Loaded, IsDetermined, no_module as no_such_module, VerifySays, SameSays, module_named, spec_named, room_of, checked_text}
-use Rattle.cb_circuits.specs.At.{no_module, module_at}
+use Rattle.cb_circ.specs.At.{no_module, module_at}
 use Rattle.cb_dd.specs.declared.Stop.TheVariants as stop
 use Rattle.cb_verify.specs.declared.Verdict.{Verdict}
 use Rattle.cb_verify.specs.declared.Verdict.TheVariants as verdict

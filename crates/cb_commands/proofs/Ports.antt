@@ -5,10 +5,9 @@ use Rattle.cb_model.specs.Text.{Text, shown_name}
 use Rattle.cb_model.specs.Circuits.{Module, flats}
 use Rattle.cb_model.specs.Facts.{Circuits}
 use Rattle.cb_model.specs.Output.{module_named}
-use Rattle.cb_circuits.specs.At.{no_module, module_at}
+use Rattle.cb_circ.specs.At.{no_module, module_at}
 use Rattle.cb_verify.proofs.Named.{lost, is-module}
 use Rattle.cb_commands.specs.Answers.{ports_of}
-
 
 -- one more port
 pub port-more : (names : List Text) (k : ℕ) → k < length names → (ps qs : List (Bor Text)) (p : Bor Text) → qs ≡ ps ++ p ∷ [] → p.now ≡ shown_name (get_or names k []) →

@@ -13,7 +13,7 @@ ghost use Rattle.cb_commands.specs.Answers.{Says, VerdictSays, ComparisonSays, F
 
 use crate::answer::Answer;
 use cb_accept::Accepted;
-use cb_circuits::Circuits;
+use cb_circ::Circuits;
 use cb_dd::Stop;
 use cb_host::Sink;
 use cb_lines::ended::Line;

@@ -6,8 +6,8 @@ use Rattle.cb_model.specs.Output.{fault_refused, sort_refused, fact_refused}
 use Rattle.cb_model.specs.Directives as dir
 use Rattle.cb_model.specs.Directives.{BadDirective, SortClash, Unknown}
 use Rattle.cb_model.specs.Facts as fact
-use Rattle.cb_circuits.specs.declared.reading.CircError.{CircError}
-use Rattle.cb_circuits.specs.declared.reading.CircError.TheVariants as circuit
+use Rattle.cb_circ.specs.declared.reading.CircError.{CircError}
+use Rattle.cb_circ.specs.declared.reading.CircError.TheVariants as circuit
 use Rattle.cb_directives.specs.declared.fault.LoadError.{LoadError}
 use Rattle.cb_directives.specs.declared.fault.LoadError.TheVariants as load
 use Rattle.cb_lex.specs.Faults.{fault_of}

@@ -9,7 +9,7 @@ ghost use Rattle.cb_lines.specs.Ends.{EndsBy};
 ghost use Rattle.cb_lines.specs.Refusals.{whose_text, place_text, refusal_view, placed_in, read_refused, load_refused, circuit_refused};
 
 use crate::ended::{Ended, Line};
-use cb_circuits::CircError;
+use cb_circ::CircError;
 use cb_directives::LoadError;
 use cb_lex::LexError;
 use cb_syntax::ReadError;

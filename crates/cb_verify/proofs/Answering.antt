@@ -10,7 +10,7 @@ use Rattle.cb_model.specs.Room.{circuit_pins, expr_size, room_v}
 use Rattle.cb_model.specs.Output.{IsDetermined, module_named, spec_named, room_of}
 use Rattle.cb_dd.specs.declared.Stop.{Stop}
 use Rattle.cb_dd.specs.declared.Stop.TheVariants as stop
-use Rattle.cb_circuits.specs.At.{module_at, flat_at, no_module, no_spec, spec_at}
+use Rattle.cb_circ.specs.At.{module_at, flat_at, no_module, no_spec, spec_at}
 use Rattle.cb_verify.specs.declared.Verdict.{Verdict}
 use Rattle.cb_verify.specs.declared.modules.VerifyError.{VerifyError}
 use Rattle.cb_verify.specs.declared.modules.VerifyError.TheVariants as error

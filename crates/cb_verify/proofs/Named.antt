@@ -17,8 +17,8 @@ use Rattle.cb_model.specs.Room.{circuit_pins, expr_size, flat_pins, greatest, in
 use Rattle.cb_model.specs.Output.{module_named, used_from, used, room_of}
 use Rattle.cb_order.proofs.Orders.{cons-cases, cons-later, cons-here, nothing}
 use Rattle.cb_flat.proofs.Places.{position-cons, here_or, position-map}
-use Rattle.cb_circuits.specs.At.{no_module, module_at, flat_at}
-use Rattle.cb_circuits.proofs.Refusing.{named-at}
+use Rattle.cb_circ.specs.At.{no_module, module_at, flat_at}
+use Rattle.cb_circ.proofs.Refusing.{named-at}
 
 -- ---- the first item that passes
 

@@ -9,7 +9,7 @@ use Rattle.cb_model.specs.Circuits.{flats, net_number}
 use Rattle.cb_model.specs.Facts.{Circuits}
 use Rattle.cb_model.specs.Room.{circuit_pins, room_v}
 use Rattle.cb_model.specs.Values.{in_scope}
-use Rattle.cb_circuits.specs.At.{module_at, flat_at}
+use Rattle.cb_circ.specs.At.{module_at, flat_at}
 use Rattle.cb_verify.specs.declared.Verdict.{Verdict}
 use Rattle.cb_verify.specs.Modules.{circuit_at}
 use Rattle.cb_verify.specs.Verdict.{IsRight}

@@ -12,7 +12,7 @@ use Rattle.cb_dd.specs.declared.Node.{Node}
 use Rattle.cb_dd.specs.declared.Stop.TheVariants as stop
 use Rattle.cb_dd.specs.Diagram.{Store}
 use Rattle.cb_verify.specs.Nodes.{DependOn}
-use Rattle.cb_circuits.specs.At.{module_at, flat_at, spec_at}
+use Rattle.cb_circ.specs.At.{module_at, flat_at, spec_at}
 use Rattle.cb_verify.specs.declared.Verdict.{Verdict}
 use Rattle.cb_verify.specs.declared.modules.VerifyError.{VerifyError}
 use Rattle.cb_verify.specs.declared.modules.VerifyError.TheVariants as error

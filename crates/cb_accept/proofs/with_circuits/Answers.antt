@@ -3,7 +3,7 @@ use Rattle.cb_model.specs.declared.RawClause.{RawClause}
 use Rattle.cb_model.specs.Forms.{clause_form}
 use Rattle.cb_model.specs.Written.{AreClauses}
 use Rattle.cb_model.specs.Facts.{FactsRead, no_circuits}
-use Rattle.cb_circuits.specs.Refused.{RefusesFacts}
+use Rattle.cb_circ.specs.Refused.{RefusesFacts}
 use Rattle.cb_lines.proofs.Writing.{ends_for}
 use Rattle.cb_accept.proofs.Accepting.{accepted-of, unconnected-refused}
 use Rattle.cb_accept.proofs.with_circuits.Goals as goal

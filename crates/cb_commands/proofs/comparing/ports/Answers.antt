@@ -1,6 +1,6 @@
 use Rattle.std.proofs.Common.{◌≡◌, map, sym, ◌∙◌, ap, arith, take_all, Bor}
 use Rattle.cb_model.specs.Text.{Text, shown_name}
-use Rattle.cb_circuits.specs.At.{module_at}
+use Rattle.cb_circ.specs.At.{module_at}
 use Rattle.cb_commands.proofs.Ports.{no-ports, all-ports}
 use Rattle.cb_commands.proofs.comparing.ports.Goals as goal
 

@@ -1,6 +1,6 @@
 use Rattle.std.proofs.Common.{◌≡◌, map, take}
 use Rattle.cb_model.specs.Text.{shown_name}
-use Rattle.cb_circuits.specs.At.{module_at}
+use Rattle.cb_circ.specs.At.{module_at}
 use Rattle.cb_commands.proofs.comparing.ports.Given as goal
 
 abbrev pub invariant-loop-k : goal.invariant-loop-k

@@ -1,4 +1,4 @@
-use Rattle.cb_circuits.specs.At.{flat_at}
+use Rattle.cb_circ.specs.At.{flat_at}
 use Rattle.cb_flat.proofs.Carry.{total_has_one}
 use Rattle.cb_verify.proofs.modules.flattened.Goals as goal
 

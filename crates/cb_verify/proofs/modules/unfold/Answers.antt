@@ -4,7 +4,7 @@ use Rattle.cb_model.specs.declared.Circuit.{Circuit}
 use Rattle.cb_model.specs.Bits.{Bits}
 use Rattle.cb_model.specs.Circuits.{Outputs}
 use Rattle.cb_model.specs.Room.{circuit_pins, flat_pins}
-use Rattle.cb_circuits.specs.At.{flat_at}
+use Rattle.cb_circ.specs.At.{flat_at}
 use Rattle.cb_verify.specs.Nodes.{Adds, node_bits}
 use Rattle.cb_verify.proofs.Rooms.{unfolds-room, unfolds-cause, unfolds-none}
 use Rattle.cb_verify.proofs.modules.unfold.Goals as goal

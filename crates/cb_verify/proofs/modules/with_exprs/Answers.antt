@@ -1,7 +1,7 @@
 use Rattle.std.proofs.Common.{refl, sum, map, sym, ◌∙◌}
 use Rattle.cb_model.specs.Circuits.{BySpec}
 use Rattle.cb_model.specs.Room.{expr_size}
-use Rattle.cb_circuits.specs.At.{flat_at}
+use Rattle.cb_circ.specs.At.{flat_at}
 use Rattle.cb_verify.specs.Modules.{circuit_at}
 use Rattle.cb_verify.proofs.Shaped.{circuit-outputs, circuit-scope, circuit-room, right-of}
 use Rattle.cb_verify.proofs.modules.with_exprs.Goals as goal

@@ -2,7 +2,7 @@ use Rattle.std.proofs.Common.{◌+◌, ◌<◌, sym, ap, subst, length, ◌∙�
 use Rattle.cb_model.specs.declared.Circuit.{Circuit}
 use Rattle.cb_model.specs.Circuits.{Outputs}
 use Rattle.cb_model.specs.Room.{circuit_pins, room_v}
-use Rattle.cb_circuits.specs.At.{module_at, flat_at}
+use Rattle.cb_circ.specs.At.{module_at, flat_at}
 use Rattle.cb_verify.specs.Modules.{circuit_at}
 use Rattle.cb_verify.proofs.Shaped.{circuit-inputs, circuit-outputs, circuit-room, right-of}
 use Rattle.cb_verify.proofs.modules.with_module.Goals as goal

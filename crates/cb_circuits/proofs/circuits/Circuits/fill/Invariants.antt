@@ -1,6 +1,0 @@
-use Rattle.cb_circuits.specs.View.{module_view}
-use Rattle.cb_circuits.proofs.Filling.{Filling}
-use Rattle.cb_circuits.proofs.circuits.Circuits.fill.Given as goal
-
-abbrev pub invariant-loop-at : goal.invariant-loop-at
-invariant-loop-at l = Filling l.self.flats (module_view l.raw) l.initial.netlist l.netlist l.at
