@@ -1,5 +1,5 @@
 -- From elimination on nodes to the range of a store.
-use Rattle.std.proofs.Common.{◌≡◌, ◌≢◌, ◌⊎◌, inl, inr, ℕ, ◌<◌, ◌≤◌, Bool, true, false, List, [], ◌∷◌, ◌++◌, length, take, Some, None, Result, Ok, Err, refl, sym, ap, subst, ◌∙◌, arith, not-le_of_lt}
+use Rattle.std.proofs.Common.{◌≡◌, ◌≢◌, ◌↔◌, ◌⊎◌, inl, inr, ℕ, ◌<◌, ◌≤◌, Bool, true, false, List, [], ◌∷◌, ◌++◌, length, take, Some, None, Result, Ok, Err, refl, sym, ap, subst, ◌∙◌, arith, not-le_of_lt}
 use Rattle.std.proofs.lemmas.Bool.{true≢false}
 use Rattle.std.proofs.lemmas.List.{append-nil, take-append-le}
 use Rattle.std.proofs.Math.Seq.{take-length}
@@ -22,7 +22,7 @@ use Rattle.cb_boole.proofs.Grow.{fit_two}
 use Rattle.cb_solution.specs.Solution.{IsFalling}
 use Rattle.cb_solution.proofs.Solved.{listed-here, listed-there, listed-cases}
 use Rattle.cb_elim.specs.declared.Change.{Change}
-use Rattle.cb_elim.specs.Store.{Seen, IsStore, IsArgument, IsAsBefore, OnlyNodes, AreThere, with_fulls, stands_in, value_in, view_of}
+use Rattle.cb_elim.specs.Store.{Seen, IsStore, IsArgument, IsAsBefore, OnlyNodes, AreThere, with_fulls, value_in, view_of}
 use Rattle.cb_elim.specs.Equation.{AreGeneral, AreMoved, IsElimination, IsGeneral, HasNoSolution, differ}
 use Rattle.cb_elim.proofs.General.{general-at}
 use Rattle.cb_ops.proofs.Ite.{Grows-then}
@@ -46,9 +46,9 @@ xor-equal false y h = rw (← h)
 
 -- what elimination takes is free: a function that meets the condition depends on no other levels but constants
 module _ (S : View) (t : Function) (fit : IsFit S t) where
-  free-one : (l : ℕ) → S.constants ≤ l → (((p : Bits) (b : Bool) → t (put l b p) ≡ t p) → ⊥) → (S.stands l ≡ None) ⊎ ((x : ℕ) × (S.stands l ≡ Some x)) → (x : ℕ) × (S.stands l ≡ Some x)
-  free-one l h needed (inr w) = w
-  free-one l h needed (inl e) = absurd (needed (λ p b. fit.only (put l b p) p (λ k w. put_other p l b k (off k w))))
+  -- a level that is neither a constant nor free
+  pub free-off : (l : ℕ) → S.constants ≤ l → S.stands l ≡ None → (p : Bits) (b : Bool) → t (put l b p) ≡ t p
+  free-off l h e p b = fit.only (put l b p) p (λ k w. put_other p l b k (off k w))
     where
       clash : (x : ℕ) → S.stands l ≡ Some x → ⊥
       clash x w = cc
@@ -57,6 +57,10 @@ module _ (S : View) (t : Function) (fit : IsFit S t) where
       off k (inl w) i = not-le_of_lt w (subst (λ j. S.constants ≤ j) (sym i) h)
       off k (inr (x, w)) i = clash x (subst (λ j. S.stands j ≡ Some x) i w)
 
+  free-one : (l : ℕ) → S.constants ≤ l → (((p : Bits) (b : Bool) → t (put l b p) ≡ t p) → ⊥) → (S.stands l ≡ None) ⊎ ((x : ℕ) × (S.stands l ≡ Some x)) → (x : ℕ) × (S.stands l ≡ Some x)
+  free-one l h needed (inr w) = w
+  free-one l h needed (inl e) = absurd (needed (free-off l h e))
+
   pub free-all : (ls : List ℕ) → ((l : ℕ) → IsListed ls l → S.constants ≤ l) → ((l : ℕ) → IsListed ls l → ((p : Bits) (b : Bool) → t (put l b p) ≡ t p) → ⊥) → AreFree S ls
   free-all [] h needed = tt
   free-all (l ∷ ls) h needed = (
@@ -64,7 +68,7 @@ module _ (S : View) (t : Function) (fit : IsFit S t) where
     free-all ls (λ k w. h k (listed-there l k ls w)) (λ k w. needed k (listed-there l k ls w)),
   )
 
-held-from : (c : ℕ) (ls : List ℕ) (l : ℕ) → (l < c) ⊎ IsListed ls l → IsHeld c ls l
+pub held-from : (c : ℕ) (ls : List ℕ) (l : ℕ) → (l < c) ⊎ IsListed ls l → IsHeld c ls l
 held-from c [] l (inl h) = h
 held-from c [] l (inr none) = absurd (true≢false (sym none))
 held-from c (k ∷ ls) l (inl h) = inr (held-from c ls l (inl h))
@@ -75,9 +79,72 @@ each-below : (l : ℕ) (ls : List ℕ) → ((k : ℕ) → IsListed ls k → k < 
 each-below l [] h = tt
 each-below l (k ∷ ls) h = (h k (listed-here k ls), each-below l ls (λ j there. h j (listed-there k j ls there)))
 
-falls : (ls : List ℕ) → IsFalling ls → Falls ls
+pub falls : (ls : List ℕ) → IsFalling ls → Falls ls
 falls [] f = tt
 falls (l ∷ ls) f = (each-below l ls f.0, falls ls f.1)
+
+-- ---- the store at the solution of d = 0
+
+module _ (s : Seen) (st : IsStore s) (d : Function) (fit : IsFit (view_of s) d) (ls : List ℕ) (are-free : AreFree (view_of s) ls) (are-held : DependsOnly (IsHeld s.constants ls) d) where
+  pub refuted : (p : Bits) → rest ls d p ≡ true → (c : Bits) → InRange (view_of s) p c → d (point (view_of s).stands p c) ≡ true
+  unfolding view_of
+  refuted p h c r = not_solvable (view_of s) st.good ls d fit are-held p h c r
+
+  module _ (down : Falls ls) (none_left : (p : Bits) → rest ls d p ≡ false) where
+    good-unified : IsGood (unified (view_of s) ls d)
+    good-unified = good_after (view_of s) st.good ls are-free d fit none_left
+
+    form-unified : IsForm (unified (view_of s) ls d)
+    unfolding view_of
+    form-unified = form_after (view_of s) st.good st.form ls are-free down d fit are-held none_left
+
+    left-unified : (p c : Bits) → InRange (unified (view_of s) ls d) p c ↔ (InRange (view_of s) p c × (d (point (view_of s).stands p c) ≡ false))
+    left-unified p c = (
+      (λ r. left_from (view_of s) st.good ls are-free d fit none_left p c r),
+      (λ w. left_into (view_of s) st.good ls d fit p c w.0 w.1),
+    )
+
+    some-unified : (p : Bits) → (c : Bits) × InRange (unified (view_of s) ls d) p c
+    some-unified p =
+        let q : Bits = solved ls d p in
+        ((λ x. (view_of s).values x q), record { at = p; agrees = λ k w. refl; gives = λ x v. refl })
+
+    same-unified : HasSameValues (view_of s) (unified (view_of s) ls d)
+    same-unified p c r x =
+        let before : InRange (view_of s) p c = record {
+          at = solved ls d r.at;
+          agrees = λ k h. solved_off ls d r.at k (constant_away (view_of s) st.good ls are-free k h) ∙ r.agrees k h;
+          gives = r.gives;
+        } in
+        at_point (unified (view_of s) ls d) good-unified ((unified (view_of s) ls d).values x) (good-unified.fit x) p c r
+        ∙ sym (at_point (view_of s) st.good ((view_of s).values x) (st.good.fit x) p c before)
+
+    -- the store with these values
+    module _ (vs : List Node) (cs : List Change) (t : Store) (at : (x : ℕ) (p : Bits) → value_in t.triples vs x p ≡ value_in s.nodes.triples s.slots x (solved ls d p)) where
+      view-unified : view_of (record s { slots = vs; trail = cs; nodes = t }) ≡ unified (view_of s) ls d
+      unfolding view_of
+      view-unified = ap (λ (v : ℕ → Function). with_values s v) (fun_ext (λ x. fun_ext (λ p. at x p)))
+
+      pub is-left : (p c : Bits) → InRange (view_of (record s { slots = vs; trail = cs; nodes = t })) p c ↔ (InRange (view_of s) p c × (d (point (view_of s).stands p c) ≡ false))
+      is-left p c = subst (λ (T : View). InRange T p c ↔ (InRange (view_of s) p c × (d (point (view_of s).stands p c) ≡ false))) (sym view-unified) (left-unified p c)
+
+      pub is-some : (p : Bits) → (c : Bits) × InRange (view_of (record s { slots = vs; trail = cs; nodes = t })) p c
+      is-some p = subst (λ (T : View). (c : Bits) × InRange T p c) (sym view-unified) (some-unified p)
+
+      pub is-same : HasSameValues (view_of s) (view_of (record s { slots = vs; trail = cs; nodes = t }))
+      is-same = subst (λ (T : View). HasSameValues (view_of s) T) (sym view-unified) same-unified
+
+      pub store-solved : AreThere t.triples vs → length vs ≡ length s.slots → Each (λ c. c.slot < length s.slots) cs → Each (λ c. IsNode t.triples c.value.0) cs → IsStore (record s { slots = vs; trail = cs; nodes = t })
+      store-solved there number within changed = record {
+        good = subst IsGood (sym view-unified) good-unified;
+        form = subst IsForm (sym view-unified) form-unified;
+        slots = λ x h. let w : x < length s.slots = st.slots x h in omega arith;
+        levels = st.levels;
+        constants = st.constants;
+        nodes = there;
+        trail = subst (λ n. Each (λ c. c.slot < n) cs) (sym number) within;
+        changed = changed;
+      }
 
 module _ (s : Seen) (st : IsStore s) (f g : ℕ) (a : IsArgument s f) (b : IsArgument s g) where
   fit-differ : IsFit (view_of s) (differ s.nodes.triples f g)
@@ -92,70 +159,28 @@ module _ (s : Seen) (st : IsStore s) (f g : ℕ) (a : IsArgument s f) (b : IsArg
     are-held = weaker (λ l. (l < s.constants) ⊎ IsListed ls l) (IsHeld s.constants ls) (differ s.nodes.triples f g) el.whole (λ l h. held-from s.constants ls l h)
 
     pub has-none : (p : Bits) → rest ls (differ s.nodes.triples f g) p ≡ true → HasNone (view_of s) (function_of s.nodes.triples f) (function_of s.nodes.triples g)
-    unfolding view_of
     has-none p h = record {
       at = p;
       none = λ c r e. true≢false
-          (sym (not_solvable (view_of s) st.good ls (differ s.nodes.triples f g) fit-differ are-held p h c r)
-          ∙ xor-equal (function_of s.nodes.triples f (point (stands_in s.free) p c)) (function_of s.nodes.triples g (point (stands_in s.free) p c)) e);
+          (sym (refuted s st (differ s.nodes.triples f g) fit-differ ls are-free are-held p h c r)
+          ∙ xor-equal (function_of s.nodes.triples f (point (view_of s).stands p c)) (function_of s.nodes.triples g (point (view_of s).stands p c)) e);
     }
 
-    module _ (none_left : (p : Bits) → rest ls (differ s.nodes.triples f g) p ≡ false) where
-      S' : View
-      S' = unified (view_of s) ls (differ s.nodes.triples f g)
-
-      good-unified : IsGood (unified (view_of s) ls (differ s.nodes.triples f g))
-      good-unified = good_after (view_of s) st.good ls are-free (differ s.nodes.triples f g) fit-differ none_left
-
-      form-unified : IsForm (unified (view_of s) ls (differ s.nodes.triples f g))
-      unfolding view_of
-      form-unified = form_after (view_of s) st.good st.form ls are-free (falls ls el.falls) (differ s.nodes.triples f g) fit-differ are-held none_left
-
-      solved-unified : IsSolved (view_of s) (unified (view_of s) ls (differ s.nodes.triples f g)) (function_of s.nodes.triples f) (function_of s.nodes.triples g)
-      solved-unified = record {
-        left = λ p c. (
-          (λ r. let w = left_from (view_of s) st.good ls are-free (differ s.nodes.triples f g) fit-differ none_left p c r in (w.0, xor-agree _ _ w.1)),
-          (λ w. left_into (view_of s) st.good ls (differ s.nodes.triples f g) fit-differ p c w.0 (xor-equal _ _ w.1)),
-        );
-        some = λ p.
-            let q : Bits = solved ls (differ s.nodes.triples f g) p in
-            ((λ x. (view_of s).values x q), record { at = p; agrees = λ k w. refl; gives = λ x v. refl });
+    module _ (none_left : (p : Bits) → rest ls (differ s.nodes.triples f g) p ≡ false) (vs : List Node) (cs : List Change) (t : Store)
+        (at : (x : ℕ) (p : Bits) → value_in t.triples vs x p ≡ value_in s.nodes.triples s.slots x (solved ls (differ s.nodes.triples f g) p)) where
+      pub is-solved : IsSolved (view_of s) (view_of (record s { slots = vs; trail = cs; nodes = t })) (function_of s.nodes.triples f) (function_of s.nodes.triples g)
+      is-solved = record {
+        left = λ p c.
+            let w = is-left s st (differ s.nodes.triples f g) fit-differ ls are-free are-held (falls ls el.falls) none_left vs cs t at p c in
+            ((λ r. let x = w.0 r in (x.0, xor-agree _ _ x.1)), (λ x. w.1 (x.0, xor-equal _ _ x.1)));
+        some = is-some s st (differ s.nodes.triples f g) fit-differ ls are-free are-held (falls ls el.falls) none_left vs cs t at;
       }
 
-      same-unified : HasSameValues (view_of s) (unified (view_of s) ls (differ s.nodes.triples f g))
-      same-unified p c r x =
-          let d : Function = differ s.nodes.triples f g in
-          let before : InRange (view_of s) p c = record {
-            at = solved ls d r.at;
-            agrees = λ k h. solved_off ls d r.at k (constant_away (view_of s) st.good ls are-free k h) ∙ r.agrees k h;
-            gives = r.gives;
-          } in
-          at_point (unified (view_of s) ls d) good-unified ((unified (view_of s) ls d).values x) (good-unified.fit x) p c r
-          ∙ sym (at_point (view_of s) st.good ((view_of s).values x) (st.good.fit x) p c before)
+      pub same-slots-at : HasSameValues (view_of s) (view_of (record s { slots = vs; trail = cs; nodes = t }))
+      same-slots-at = is-same s st (differ s.nodes.triples f g) fit-differ ls are-free are-held (falls ls el.falls) none_left vs cs t at
 
-      -- the store with these values
-      module _ (vs : List Node) (cs : List Change) (t : Store) (at : (x : ℕ) (p : Bits) → value_in t.triples vs x p ≡ value_in s.nodes.triples s.slots x (solved ls (differ s.nodes.triples f g) p)) where
-        view-unified : view_of (record s { slots = vs; trail = cs; nodes = t }) ≡ unified (view_of s) ls (differ s.nodes.triples f g)
-        unfolding view_of
-        view-unified = ap (λ (v : ℕ → Function). with_values s v) (fun_ext (λ x. fun_ext (λ p. at x p)))
-
-        pub is-solved : IsSolved (view_of s) (view_of (record s { slots = vs; trail = cs; nodes = t })) (function_of s.nodes.triples f) (function_of s.nodes.triples g)
-        is-solved = subst (λ (T : View). IsSolved (view_of s) T (function_of s.nodes.triples f) (function_of s.nodes.triples g)) (sym view-unified) solved-unified
-
-        pub is-same : HasSameValues (view_of s) (view_of (record s { slots = vs; trail = cs; nodes = t }))
-        is-same = subst (λ (T : View). HasSameValues (view_of s) T) (sym view-unified) same-unified
-
-        pub store-solved : AreThere t.triples vs → length vs ≡ length s.slots → Each (λ c. c.slot < length s.slots) cs → Each (λ c. IsNode t.triples c.value.0) cs → IsStore (record s { slots = vs; trail = cs; nodes = t })
-        store-solved there number within changed = record {
-          good = subst IsGood (sym view-unified) good-unified;
-          form = subst IsForm (sym view-unified) form-unified;
-          slots = λ x h. let w : x < length s.slots = st.slots x h in omega arith;
-          levels = st.levels;
-          constants = st.constants;
-          nodes = there;
-          trail = subst (λ n. Each (λ c. c.slot < n) cs) (sym number) within;
-          changed = changed;
-        }
+      pub store-at : AreThere t.triples vs → length vs ≡ length s.slots → Each (λ c. c.slot < length s.slots) cs → Each (λ c. IsNode t.triples c.value.0) cs → IsStore (record s { slots = vs; trail = cs; nodes = t })
+      store-at = store-solved s st (differ s.nodes.triples f g) fit-differ ls are-free are-held (falls ls el.falls) none_left vs cs t at
 
 -- ---- as the code leaves the store
 
@@ -177,7 +202,7 @@ module _ (now s : Seen) (is : s ≡ now) (st : IsStore now) (f g : ℕ) (a : IsA
 
     pub solve-same : HasSameValues (view_of now) (view_of (record s { slots = vs; trail = cs; nodes = t }))
     solve-same = subst (λ (o : Seen). HasSameValues (view_of o) (view_of (record s { slots = vs; trail = cs; nodes = t }))) is
-        (is-same s inside f g (argument f a) (argument g b) gen.levels gen.elimination gen.none_left vs cs t gen.at)
+        (same-slots-at s inside f g (argument f a) (argument g b) gen.levels gen.elimination gen.none_left vs cs t gen.at)
 
     pub solve-solution : IsSolutionOf (view_of now) (view_of (record s { slots = vs; trail = cs; nodes = t })) (function_of now.nodes.triples f) (function_of now.nodes.triples g)
     unfolding view_of
@@ -186,7 +211,7 @@ module _ (now s : Seen) (is : s ≡ now) (st : IsStore now) (f g : ℕ) (a : IsA
 
     module _ (trail : cs ≡ s.trail ++ changes_from 0 s.slots vs) where
       pub solve-store : Each (λ c. IsNode t.triples c.value.0) cs → IsStore (record s { slots = vs; trail = cs; nodes = t })
-      solve-store changed = store-solved s inside f g (argument f a) (argument g b) gen.levels gen.elimination gen.none_left vs cs t gen.at gen.there gen.number
+      solve-store changed = store-at s inside f g (argument f a) (argument g b) gen.levels gen.elimination gen.none_left vs cs t gen.at gen.there gen.number
           (subst (λ (xs : List Change). Each (λ c. c.slot < length s.slots) xs) (sym trail)
           (each-append (length s.slots) s.trail (changes_from 0 s.slots vs) inside.trail (changes-within 0 s.slots vs (length s.slots) (omega arith)))) changed
 

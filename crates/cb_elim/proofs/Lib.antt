@@ -13,6 +13,7 @@ pub mod Rooms
 pub mod Expressions
 pub mod Laws
 pub mod Sizes
+mod Parting
 pub mod Together
 mod Added
 mod Covering

@@ -44,7 +44,7 @@ listed-without k j (l ∷ ls) h ne = elim (cases_Bool (nat_eq l k)) [
       ])
 ]
 
-falling-fit : (levels ls : List ℕ) → IsFalling levels → ((l : ℕ) → IsListed levels l → IsListed ls l) → length levels ≤ length ls
+pub falling-fit : (levels ls : List ℕ) → IsFalling levels → ((l : ℕ) → IsListed levels l → IsListed ls l) → length levels ≤ length ls
 falling-fit [] ls f h = omega arith
 falling-fit (l ∷ levels) ls f h =
     let shorter : length (without l ls) + 1 ≤ length ls = without-lt l ls (h l (listed-here l levels)) in

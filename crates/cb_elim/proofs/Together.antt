@@ -1,28 +1,36 @@
 -- Many equations as one: that no pair differs.
-use Rattle.std.proofs.Common.{◌≡◌, ◌↔◌, ℕ, zero, suc, ◌+◌, ◌-◌, ◌*◌, ◌^◌, min, ◌<◌, ◌≤◌, Bool, true, false, ◌||◌, List, [], ◌∷◌, length, map, get_or, refl, sym, ap, ap₂, subst, ◌∙◌, arith}
-use Rattle.std.proofs.lemmas.Bool.{true≢false}
+use Rattle.std.proofs.Common.{◌≡◌, ◌↔◌, ◌⊎◌, inl, inr, ℕ, zero, suc, ◌+◌, ◌-◌, ◌*◌, ◌^◌, min, ◌<◌, ◌≤◌, Bool, true, false, ◌||◌, List, [], ◌∷◌, ◌++◌, length, map, get_or, nat_eq, Some, None, refl, sym, ap, ap₂, subst, ◌∙◌, arith}
+use Rattle.std.proofs.lemmas.Bool.{cases_Bool, true≢false}
 use Rattle.std.proofs.lemmas.Nat.{pow_pos}
-use Rattle.std.proofs.Math.Nat.{mul-le-mul_left}
-use Rattle.std.proofs.Math.Path.{fun_ext}
-use Rattle.cb_model.specs.Bits.{Bits, Each, xor}
+use Rattle.std.proofs.Math.Nat.{mul-le-mul_left, mul-le-mul_right}
+use Rattle.std.specs.List.{list_any}
+use Rattle.cb_model.specs.Bits.{Bits, Each, put, xor}
 use Rattle.cb_dd.specs.declared.Node.{Node}
 use Rattle.cb_dd.specs.declared.Triple.{Triple}
 use Rattle.cb_dd.specs.Diagram.{Store, IsNode, function_of}
-use Rattle.cb_dd.proofs.Diagrams.{function_of-zero}
-use Rattle.cb_ops.specs.Ops.{Grows, StandsFor, DependsOn, Agree}
-use Rattle.cb_ops.proofs.Ite.{Grows-then}
-use Rattle.cb_boole.specs.Elimination.{Function, rest, solved}
+use Rattle.cb_ops.specs.Ops.{Grows, DependsOn, Agree}
+use Rattle.cb_ops.specs.Support.{IsListed}
+use Rattle.cb_ops.specs.Substitute.{Images}
+use Rattle.cb_ops.proofs.Ite.{Grows-then, agree-absent}
+use Rattle.cb_boole.specs.Elimination.{Function, DependsOnly, rest, solved}
 use Rattle.cb_boole.specs.View.{View, IsFit, point}
+use Rattle.cb_boole.proofs.Bounds.{below_pow, four_next}
 use Rattle.cb_boole.proofs.Grow.{fit_two}
-use Rattle.cb_boole.proofs.Bounds.{four_next}
-use Rattle.cb_solution.specs.Differ.{ArePairs, DependPairs, DifferRoom, some_differ}
-use Rattle.cb_elim.specs.Store.{Seen, IsStore, IsArgument, IsAsBefore, AreThere, value_in, slot_bits, view_of}
-use Rattle.cb_elim.specs.Equation.{DependEach, GeneralRoom}
-use Rattle.cb_elim.specs.Unified.{HasNone, HasSameValues, IsSolutionOf, IsSolved, OnlyValues, UnifyCause}
-use Rattle.cb_elim.specs.Pairs.{AreArguments, AreSame, AreSlots, AreSolved, AreUnified, AgreeAt, HaveNone, PairsCause, PairsRoom}
-use Rattle.cb_elim.proofs.Views.{view-still}
+use Rattle.cb_boole.proofs.Only.{IsHeld, solved_alike, weaker}
+use Rattle.cb_boole.proofs.Unify.{AreFree, cases_stands}
+use Rattle.cb_solution.specs.Differ.{ArePairs, DependPairs, some_differ}
+use Rattle.cb_solution.specs.Solution.{ImagesWithin}
+use Rattle.cb_solution.proofs.Solved.{agree-from, at-some, image-listed, listed-here, listed-there, only-into}
+use Rattle.cb_elim.specs.declared.Change.{Change}
+use Rattle.cb_elim.specs.Store.{Seen, IsStore, IsArgument, IsAsBefore, OnlyNodes, AreThere, value_in, slot_bits, view_of}
+use Rattle.cb_elim.specs.Equation.{AreMoved, DependEach, MovedRoom, differ}
+use Rattle.cb_elim.specs.Moments.{changes_from}
+use Rattle.cb_elim.specs.Unified.{HasSameValues, OnlyValues}
+use Rattle.cb_elim.specs.Pairs.{AreArguments, AreSame, AreSlots, AreSolutionOf, AreSolved, AreUnified, AgreeAt, ArePairsGeneral, ArePairsLevels, HaveNone, HavePairsNoSolution, PairsCause, PairsRoom, PairsSidesRoom}
+use Rattle.cb_elim.proofs.Changes.{changes-within, each-append}
+use Rattle.cb_elim.proofs.Views.{value-still}
 use Rattle.cb_elim.proofs.Rooms.{depend-still}
-use Rattle.cb_elim.proofs.Equations.{same-slots, same-values}
+use Rattle.cb_elim.proofs.Equations.{falls, free-off, held-from, is-left, is-same, is-some, refuted, same-slots, same-values, store-solved}
 
 -- ---- where no pair differs, all agree
 
@@ -73,83 +81,121 @@ fit-pairs s (q ∷ qs) h =
     fit_two (view_of s) ◌||◌ (λ p. xor (function_of s.nodes.triples q.0.0 p) (function_of s.nodes.triples q.1.0 p)) (some_differ s.nodes.triples qs)
     (fit_two (view_of s) xor (function_of s.nodes.triples q.0.0) (function_of s.nodes.triples q.1.0) h.0.0.fit h.0.1.fit) (fit-pairs s qs h.1)
 
--- ---- the equation, on the store with its nodes
+-- ---- the store at the solution of all pairs
 
-module _ (now s : Seen) (is : s ≡ now) (st : IsStore now) (qs : List (Node × Node)) (h : AreArguments now qs) (t : Store) (g : Grows s.nodes t) where
-  mid : Seen
-  mid = record s { nodes = t }
+all-off : (s : Seen) (qs : List (Node × Node)) → AreArguments s qs → (l : ℕ) → s.constants ≤ l → (view_of s).stands l ≡ None → Each (λ q. (p : Bits) (b : Bool) → differ s.nodes.triples q.0.0 q.1.0 (put l b p) ≡ differ s.nodes.triples q.0.0 q.1.0 p) qs
+unfolding view_of
+all-off s [] h l c e = tt
+all-off s (q ∷ qs) h l c e = (
+  free-off (view_of s) (differ s.nodes.triples q.0.0 q.1.0) (fit_two (view_of s) xor (function_of s.nodes.triples q.0.0) (function_of s.nodes.triples q.1.0) h.0.0.fit h.0.1.fit) l c e,
+  all-off s qs h.1 l c e,
+)
 
+all-free : (s : Seen) (qs : List (Node × Node)) → AreArguments s qs → (ls : List ℕ) → ((l : ℕ) → IsListed ls l → s.constants ≤ l) →
+    ((l : ℕ) → IsListed ls l → Each (λ q. (p : Bits) (b : Bool) → differ s.nodes.triples q.0.0 q.1.0 (put l b p) ≡ differ s.nodes.triples q.0.0 q.1.0 p) qs → ⊥) → AreFree (view_of s) ls
+all-free s qs h [] free needed = tt
+all-free s qs h (l ∷ ls) free needed = (
+  one (cases_stands ((view_of s).stands l)),
+  all-free s qs h ls (λ k w. free k (listed-there l k ls w)) (λ k w. needed k (listed-there l k ls w)),
+)
+  where
+    one : ((view_of s).stands l ≡ None) ⊎ ((x : ℕ) × ((view_of s).stands l ≡ Some x)) → (x : ℕ) × ((view_of s).stands l ≡ Some x)
+    one (inr w) = w
+    one (inl e) = absurd (needed l (listed-here l ls) (all-off s qs h l (free l (listed-here l ls)) e))
+
+module _ (s : Seen) (st : IsStore s) (qs : List (Node × Node)) (h : AreArguments s qs) (ls : List ℕ) (el : ArePairsLevels s.constants s.nodes.triples qs ls) where
+  are-free : AreFree (view_of s) ls
+  are-free = all-free s qs h ls el.free el.needed
+
+  are-held : DependsOnly (IsHeld s.constants ls) (some_differ s.nodes.triples qs)
+  are-held = weaker (λ l. (l < s.constants) ⊎ IsListed ls l) (IsHeld s.constants ls) (some_differ s.nodes.triples qs) el.whole (λ l w. held-from s.constants ls l w)
+
+  none-at : (p : Bits) → rest ls (some_differ s.nodes.triples qs) p ≡ true → HaveNone (view_of s) s.nodes.triples qs
+  none-at p left = record {
+    at = p;
+    none = λ c r a. true≢false
+        (sym (refuted s st (some_differ s.nodes.triples qs) (fit-pairs s qs h) ls are-free are-held p left c r)
+        ∙ all-agree s.nodes.triples qs (point (view_of s).stands p c) a);
+  }
+
+  module _ (none_left : (p : Bits) → rest ls (some_differ s.nodes.triples qs) p ≡ false) (vs : List Node) (cs : List Change) (t : Store)
+      (at : (x : ℕ) (p : Bits) → value_in t.triples vs x p ≡ value_in s.nodes.triples s.slots x (solved ls (some_differ s.nodes.triples qs) p)) where
+    solved-at : AreSolved (view_of s) (view_of (record s { slots = vs; trail = cs; nodes = t })) s.nodes.triples qs
+    solved-at = record {
+      left = λ p c.
+          let w = is-left s st (some_differ s.nodes.triples qs) (fit-pairs s qs h) ls are-free are-held (falls ls el.falls) none_left vs cs t at p c in
+          ((λ r. let x = w.0 r in (x.0, none-differ s.nodes.triples qs _ x.1)), (λ x. w.1 (x.0, all-agree s.nodes.triples qs _ x.1)));
+      some = is-some s st (some_differ s.nodes.triples qs) (fit-pairs s qs h) ls are-free are-held (falls ls el.falls) none_left vs cs t at;
+    }
+
+    solution-at : AreSolutionOf s (record s { slots = vs; trail = cs; nodes = t }) qs
+    unfolding view_of
+    solution-at = record { levels = ls; elimination = el; none_left = none_left; values = at }
+
+    same-at : HasSameValues (view_of s) (view_of (record s { slots = vs; trail = cs; nodes = t }))
+    same-at = is-same s st (some_differ s.nodes.triples qs) (fit-pairs s qs h) ls are-free are-held (falls ls el.falls) none_left vs cs t at
+
+    store-at : AreThere t.triples vs → length vs ≡ length s.slots → Each (λ c. c.slot < length s.slots) cs → Each (λ c. IsNode t.triples c.value.0) cs → IsStore (record s { slots = vs; trail = cs; nodes = t })
+    store-at = store-solved s st (some_differ s.nodes.triples qs) (fit-pairs s qs h) ls are-free are-held (falls ls el.falls) none_left vs cs t at
+
+-- ---- as the code leaves the store
+
+module _ (now s : Seen) (is : s ≡ now) (st : IsStore now) (qs : List (Node × Node)) (h : AreArguments now qs) where
   inside : IsStore s
   inside = subst IsStore (sym is) st
 
   arguments : AreArguments s qs
   arguments = subst (λ (o : Seen). AreArguments o qs) (sym is) h
 
-  same-view : view_of mid ≡ view_of s
-  unfolding mid
-  same-view = view-still s t g inside.nodes
+  pub pairs-none : HavePairsNoSolution s.nodes.triples s.constants qs → HaveNone (view_of now) now.nodes.triples qs
+  pairs-none r = subst (λ (o : Seen). HaveNone (view_of o) o.nodes.triples qs) is (none-at s inside qs arguments r.levels r.elimination r.at r.left)
 
-  module _ (n : ℕ) (w : IsNode t.triples n) (stands : StandsFor t.triples n (some_differ s.nodes.triples qs)) where
-    function-is : function_of t.triples n ≡ some_differ s.nodes.triples qs
-    function-is = fun_ext (λ p. stands.at p)
+  module _ (t : Store) (g : Grows s.nodes t) (images : Images) (gen : ArePairsGeneral s.nodes.triples t.triples s.constants qs images)
+      (new : Seen) (moved : AreMoved t.triples new.nodes.triples images s.slots new.slots) (v : OnlyValues (record s { nodes = t }) new) where
+    at : (x : ℕ) (p : Bits) → value_in new.nodes.triples new.slots x p ≡ value_in s.nodes.triples s.slots x (solved gen.levels (some_differ s.nodes.triples qs) p)
+    at x p =
+        moved.at x p
+        ∙ ap (value_in t.triples s.slots x) (gen.at p)
+        ∙ ap (λ (k : Function). k (solved gen.levels (some_differ s.nodes.triples qs) p)) (value-still s.nodes t g s.slots inside.nodes x)
 
-    zero-is : function_of t.triples 0 ≡ (λ p. false)
-    zero-is = fun_ext (λ p. function_of-zero t.triples p)
-
-    pub equation-argument : IsArgument (record s { nodes = t }) n
-    unfolding mid same-view function-is
-    equation-argument = record {
-      node = w;
-      fit = subst (λ (S : View). IsFit S (function_of t.triples n)) (sym same-view) (subst (λ (f : Function). IsFit (view_of s) f) (sym function-is) (fit-pairs s qs arguments));
+    new-is : record s { slots = new.slots; trail = new.trail; nodes = new.nodes } ≡ new
+    new-is = λ i. record {
+      constants = sym v.constants i;
+      drawn = sym v.drawn i;
+      free = sym v.free i;
+      slots = new.slots;
+      trail = new.trail;
+      nodes = new.nodes;
     }
 
-    pub zero-argument : IsArgument (record s { nodes = t }) 0
-    unfolding zero-is
-    zero-argument = record { node = omega arith; fit = subst (λ (f : Function). IsFit (view_of (record s { nodes = t })) f) (sym zero-is) (fit-none (view_of (record s { nodes = t }))) }
+    trail-is : new.trail ≡ s.trail ++ changes_from 0 s.slots new.slots
+    trail-is = v.trail ∙ ap (λ cs. s.trail ++ cs) v.listed
 
-    -- what was found of the equation is found of the pairs
-    module _ (u : Seen) where
-      solved-pairs : IsSolved (view_of s) (view_of u) (some_differ s.nodes.triples qs) (λ p. false) → AreSolved (view_of s) (view_of u) s.nodes.triples qs
-      solved-pairs q = record {
-        left = λ a b. (
-          (λ r. let x = (q.left a b).0 r in (x.0, none-differ s.nodes.triples qs _ x.1)),
-          (λ r. (q.left a b).1 (r.0, all-agree s.nodes.triples qs _ r.1)),
-        );
-        some = q.some;
-      }
+    values-only : OnlyValues s new
+    values-only = record {
+      constants = v.constants;
+      drawn = v.drawn;
+      free = v.free;
+      number = v.number;
+      changes = v.changes;
+      trail = v.trail;
+      listed = v.listed;
+      slots = v.slots;
+      nodes = Grows-then s.nodes t new.nodes g v.nodes;
+    }
 
-      on-functions : (P : View → Function → Function → Type 0) → P (view_of mid) (function_of t.triples n) (function_of t.triples 0) → P (view_of s) (some_differ s.nodes.triples qs) (λ p. false)
-      on-functions P q =
-          subst (λ (f : Function). P (view_of s) (some_differ s.nodes.triples qs) f) zero-is
-          (subst (λ (f : Function). P (view_of s) f (function_of t.triples 0)) function-is
-          (subst (λ (S : View). P S (function_of t.triples n) (function_of t.triples 0)) same-view q))
+    pub pairs-unified : AreUnified now new qs
+    pairs-unified = subst (λ (o : Seen). AreUnified o new qs) is (record {
+      solved = subst (λ (o : Seen). AreSolved (view_of s) (view_of o) s.nodes.triples qs) new-is (solved-at s inside qs arguments gen.levels gen.elimination gen.none_left new.slots new.trail new.nodes at);
+      solution = subst (λ (o : Seen). AreSolutionOf s o qs) new-is (solution-at s inside qs arguments gen.levels gen.elimination gen.none_left new.slots new.trail new.nodes at);
+      values = values-only;
+      slots = subst (λ (o : Seen). HasSameValues (view_of s) (view_of o)) new-is (same-at s inside qs arguments gen.levels gen.elimination gen.none_left new.slots new.trail new.nodes at);
+    })
 
-      pub pairs-unified : IsSolved (view_of (record s { nodes = t })) (view_of u) (function_of t.triples n) (function_of t.triples 0) → IsSolutionOf (view_of (record s { nodes = t })) (view_of u) (function_of t.triples n) (function_of t.triples 0) →
-          OnlyValues (record s { nodes = t }) u → HasSameValues (view_of (record s { nodes = t })) (view_of u) → AreUnified now u qs
-      unfolding mid
-      pairs-unified q m v e = subst (λ (o : Seen). AreUnified o u qs) is (record {
-        solved = solved-pairs (on-functions (λ S f k. IsSolved S (view_of u) f k) q);
-        solution = on-functions (λ S f k. IsSolutionOf S (view_of u) f k) m;
-        values = record {
-          constants = v.constants;
-          drawn = v.drawn;
-          free = v.free;
-          number = v.number;
-          changes = v.changes;
-          trail = v.trail;
-          listed = v.listed;
-          slots = v.slots;
-          nodes = Grows-then s.nodes t u.nodes g v.nodes;
-        };
-        slots = subst (λ (S : View). HasSameValues S (view_of u)) same-view e;
-      })
-
-    pub pairs-none : HasNone (view_of (record s { nodes = t })) (function_of t.triples n) (function_of t.triples 0) → HaveNone (view_of now) now.nodes.triples qs
-    unfolding mid
-    pairs-none q = subst (λ (o : Seen). HaveNone (view_of o) o.nodes.triples qs) is (record { at = r.at; none = λ b k a. r.none b k (all-agree s.nodes.triples qs _ a) })
-      where
-        r : HasNone (view_of s) (some_differ s.nodes.triples qs) (λ p. false)
-        r = on-functions s (λ S f k. HasNone S f k) q
+    pub pairs-store : Each (λ c. IsNode new.nodes.triples c.value.0) new.trail → IsStore new
+    pairs-store changed = subst IsStore new-is (store-at s inside qs arguments gen.levels gen.elimination gen.none_left new.slots new.trail new.nodes at moved.there moved.number
+        (subst (λ (xs : List Change). Each (λ c. c.slot < length s.slots) xs) (sym trail-is)
+        (each-append (length s.slots) s.trail (changes_from 0 s.slots new.slots) inside.trail (changes-within 0 s.slots new.slots (length s.slots) (omega arith)))) changed)
 
 -- ---- pairs of one node
 
@@ -179,8 +225,8 @@ same-unified s qs h = record {
   slots = same-slots s;
 }
   where
-    none : (p : Bits) → xor (some_differ s.nodes.triples qs p) false ≡ false
-    none p = xor-equal (some_differ s.nodes.triples qs p) false (all-agree s.nodes.triples qs p (same-agree s.nodes.triples qs h p))
+    none : (p : Bits) → some_differ s.nodes.triples qs p ≡ false
+    none p = all-agree s.nodes.triples qs p (same-agree s.nodes.triples qs h p)
 
 -- ---- how many nodes
 
@@ -203,39 +249,62 @@ pairs-room-none ns qs old new h = record { most = λ ls d e. let b = positive (l
 pub pairs-room-before : (old new : Seen) (qs : List (Node × Node)) → IsAsBefore old new → PairsRoom old.slots qs old.nodes new.nodes
 pairs-room-before old new qs b = pairs-room-none old.slots qs old.nodes new.nodes (let e = ap (λ (s : Seen). length s.nodes.triples) b.same in omega arith)
 
-module _ (now s : Seen) (is : s ≡ now) (st : IsStore now) (qs : List (Node × Node)) (t : Store) (g : Grows s.nodes t) (r : DifferRoom qs s.nodes t) where
+pairs-sum : (x w n : ℕ) → w < x → w * (6 * x + x * x) + n * (w * (3 * x)) + 1 ≤ 64 * (n + w + 1) * (4 * (x * x))
+pairs-sum x w n short =
+    let pos : 0 < x = omega (arith, short) in
+    let c : w * (3 * x) ≤ x * (3 * x) = mul-le-mul_right (3 * x) (omega (arith, short)) in
+    let d : n * (w * (3 * x)) ≤ n * (x * (3 * x)) = mul-le-mul_left n c in
+    let p : x * 1 ≤ x * x = mul-le-mul_left x pos in
+    let b : w * x ≤ w * (x * x) = mul-le-mul_left w (omega (arith, p)) in
+    omega (arith, pos, c, d, p, b)
+
+pairs-enough : (w n : ℕ) → w * (6 * 2 ^ w + 2 ^ w * 2 ^ w) + n * (w * (3 * 2 ^ w)) + 1 ≤ 64 * (n + w + 1) * 4 ^ (w + 1)
+pairs-enough w n = subst (λ z. w * (6 * 2 ^ w + 2 ^ w * 2 ^ w) + n * (w * (3 * 2 ^ w)) + 1 ≤ 64 * (n + w + 1) * z) (sym (four_next w)) (pairs-sum (2 ^ w) w n (below_pow w))
+
+module _ (now s : Seen) (is : s ≡ now) (st : IsStore now) (qs : List (Node × Node)) (t : Store) (g : Grows s.nodes t) (first : PairsSidesRoom qs s.nodes t) where
   pub pairs-room-first : PairsRoom now.slots qs now.nodes t
-  pairs-room-first = subst (λ (o : Seen). PairsRoom o.slots qs o.nodes t) is (record { most = λ ls d e. let a = r.most ls d in let b = positive (length s.slots) (length ls) in omega (arith, a, b) })
+  pairs-room-first = subst (λ (o : Seen). PairsRoom o.slots qs o.nodes t) is (record { most = λ ls d e. let a = first.most ls d in let b = pairs-enough (length ls) (length s.slots) in omega (arith, a, b) })
 
-  pub pairs-cause-first : length t.triples ≡ t.budget → t.fulls ≡ min (s.nodes.fulls + 1) (2 ^ 64 - 1) → PairsCause now (record s { nodes = t }) qs
-  pairs-cause-first full rose = subst (λ (o : Seen). PairsCause o (record s { nodes = t }) qs) is (record {
-    rose = omega arith;
-    below = λ ls d e. let a = r.most ls d in let b = positive (length s.slots) (length ls) in let c = g.budget in omega (arith, a, b, c, full);
-  })
+  module _ (images : Images) (constants : ℕ) (gen : ArePairsGeneral s.nodes.triples t.triples constants qs images) where
+    only : (ls : List ℕ) → DependPairs s.nodes.triples qs ls → DependsOnly (IsListed ls) (some_differ s.nodes.triples qs)
+    only ls d p q h = some-depends s.nodes.triples qs ls d p q (agree-from ls p q h)
 
-  module _ (n : ℕ) (stands : StandsFor t.triples n (some_differ s.nodes.triples qs)) where
-    on-equation : (ls : List ℕ) → DependPairs s.nodes.triples qs ls → DependsOn t.triples n ls
-    on-equation ls d = record { agrees = λ p q k. stands.at p ∙ some-depends s.nodes.triples qs ls d p q k ∙ sym (stands.at q) }
+    within : (ls : List ℕ) → DependPairs s.nodes.triples qs ls → (l : ℕ) → IsListed gen.levels l → IsListed ls l
+    within ls d l there = elim (cases_Bool (list_any (nat_eq l) ls)) [
+      | inl listed ↦ listed
+      | inr away ↦ absurd (gen.elimination.needed l there (each-free qs d away))
+    ]
+      where
+        each-free : (rs : List (Node × Node)) → DependPairs s.nodes.triples rs ls → list_any (nat_eq l) ls ≡ false →
+            Each (λ q. (p : Bits) (b : Bool) → differ s.nodes.triples q.0.0 q.1.0 (put l b p) ≡ differ s.nodes.triples q.0.0 q.1.0 p) rs
+        each-free [] e away = tt
+        each-free (r ∷ rs) e away = (
+          (λ p b. ap₂ xor (e.0.0.agrees (put l b p) p (agree-absent l ls p b away)) (e.0.1.agrees (put l b p) p (agree-absent l ls p b away))),
+          each-free rs e.1 away,
+        )
 
-    on-zero : (ls : List ℕ) → DependsOn t.triples 0 ls
-    on-zero ls = record { agrees = λ p q k. function_of-zero t.triples p ∙ sym (function_of-zero t.triples q) }
+    images-within : (ls : List ℕ) → DependPairs s.nodes.triples qs ls → ImagesWithin t.triples images ls
+    images-within ls d = record {
+      each = λ l m e. only-into t.triples m.0 ls (λ p. solved gen.levels (some_differ s.nodes.triples qs) p l)
+          (record { at = λ p. sym (at-some t.triples images p l m e) ∙ ap (λ (q : Bits). q l) (gen.at p) })
+          (λ p q h. solved_alike (IsListed ls) gen.levels (some_differ s.nodes.triples qs) (only ls d) p q h l (within ls d l (gen.within l (image-listed images l m e))));
+    }
 
-    on-slots : (ls : List ℕ) → DependEach s.nodes.triples s.slots ls → DependEach t.triples s.slots ls
-    on-slots ls e = depend-still s.nodes t g s.slots (subst IsStore (sym is) st).nodes ls e
-
-    pub pairs-room-second : (u : Store) → GeneralRoom s.slots n 0 t u → PairsRoom now.slots qs now.nodes u
-    pairs-room-second u room = subst (λ (o : Seen). PairsRoom o.slots qs o.nodes u) is (record {
-      most = λ ls d e. let a = r.most ls d in let b = room.most ls (on-equation ls d) (on-zero ls) (on-slots ls e) in omega (arith, a, b);
+    pub pairs-room-second : (u : Store) → MovedRoom s.slots images t u → PairsRoom now.slots qs now.nodes u
+    pairs-room-second u second = subst (λ (o : Seen). PairsRoom o.slots qs o.nodes u) is (record {
+      most = λ ls d e.
+          let a = first.most ls d in
+          let b = second.most ls (depend-still s.nodes t g s.slots (subst IsStore (sym is) st).nodes ls e) (images-within ls d) in
+          let c = pairs-enough (length ls) (length s.slots) in
+          omega (arith, a, b, c);
     })
 
-    pub pairs-cause-second : (u : Seen) → t.fulls ≡ s.nodes.fulls → UnifyCause (record s { nodes = t }) u n 0 → PairsCause now u qs
-    pairs-cause-second u same cause = subst (λ (o : Seen). PairsCause o u qs) is (record {
-      rose = let k = cause.rose in omega arith;
-      below = λ ls d e. let a = r.most ls d in let b = cause.below ls (on-equation ls d) (on-zero ls) (on-slots ls e) in let c = g.budget in omega (arith, a, b, c);
-    })
-
-pub cause-cut : (old mid new : Seen) (qs : List (Node × Node)) → PairsCause old mid qs → new.nodes.fulls ≡ mid.nodes.fulls → PairsCause old new qs
-cause-cut old mid new qs c e = record { rose = let r = c.rose in omega arith; below = c.below }
+pub pairs-cause : (old mid new : Seen) (qs : List (Node × Node)) → OnlyNodes old mid → PairsRoom old.slots qs old.nodes mid.nodes → length mid.nodes.triples ≡ mid.nodes.budget → mid.nodes.fulls ≡ min (old.nodes.fulls + 1) (2 ^ 64 - 1) →
+    new.nodes.fulls ≡ mid.nodes.fulls → PairsCause old new qs
+pairs-cause old mid new qs only room full rose same = record {
+  rose = omega (arith, rose, same);
+  below = λ ls d e. let m = room.most ls d e in let b = only.grows.budget in omega (arith, m, b, full);
+}
 
 -- ---- pairs of slots
 

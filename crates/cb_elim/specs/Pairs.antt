@@ -1,15 +1,22 @@
 -- Many equations at once: pairs of nodes that become equal.
-use Rattle.std.specs.Prelude.{◌≡◌, ◌↔◌, ℕ, ◌+◌, ◌*◌, ◌^◌, ◌<◌, ◌≤◌, false, List, length}
-use Rattle.cb_model.specs.Bits.{Bits, Each}
+use Rattle.std.specs.Prelude.{◌≡◌, ◌↔◌, ◌⊎◌, ℕ, ◌+◌, ◌*◌, ◌^◌, ◌<◌, ◌≤◌, Bool, true, false, List, [], ◌∷◌, length, map}
+use Rattle.std.specs.List.Sorted.{IsStrictlyIncreasing}
+use Rattle.cb_model.specs.Bits.{Bits, Each, put}
 use Rattle.cb_model.specs.Outside.{Rose}
 use Rattle.cb_dd.specs.declared.Triple.{Triple}
 use Rattle.cb_dd.specs.declared.Node.{Node}
-use Rattle.cb_dd.specs.Diagram.{Store, function_of}
+use Rattle.cb_dd.specs.Diagram.{Store, IsNode, function_of}
+use Rattle.cb_ops.specs.Ops.{IsFree, StandsFor}
+use Rattle.cb_ops.specs.Support.{IsListed}
+use Rattle.cb_ops.specs.Composed.{AreLower}
+use Rattle.cb_ops.specs.Substitute.{Images, AreNodes, substituted}
+use Rattle.cb_boole.specs.Elimination.{DependsOnly, rest, solved}
 use Rattle.cb_boole.specs.View.{View, InRange, point}
 use Rattle.cb_solution.specs.Differ.{DependPairs, some_differ}
+use Rattle.cb_solution.specs.Solution.{IsFalling}
 use Rattle.cb_elim.specs.Store.{Seen, IsArgument, view_of}
-use Rattle.cb_elim.specs.Equation.{DependEach}
-use Rattle.cb_elim.specs.Unified.{HasSameValues, IsSolutionOf, OnlyValues}
+use Rattle.cb_elim.specs.Equation.{DependEach, differ}
+use Rattle.cb_elim.specs.Unified.{HasSameValues, OnlyValues}
 
 -- each node of the pairs may be handed to the store
 abbrev pub AreArguments : Seen → List (Node × Node) → Type 0
@@ -34,11 +41,26 @@ pub record HaveNone (S : View) (ts : List Triple) (qs : List (Node × Node)) : T
   pub at : Bits
   pub none : (b : Bits) → InRange S at b → AgreeAt ts qs (point S.stands at b) → ⊥
 
+-- the levels on which the difference of some pair depends, but for the constants, the greatest first
+pub record ArePairsLevels (constants : ℕ) (ts : List Triple) (qs : List (Node × Node)) (levels : List ℕ) : Type 0 where
+  pub falls : IsFalling levels
+  pub free : (l : ℕ) → IsListed levels l → constants ≤ l
+  pub needed : (l : ℕ) → IsListed levels l → Each (λ q. (p : Bits) (b : Bool) → differ ts q.0.0 q.1.0 (put l b p) ≡ differ ts q.0.0 q.1.0 p) qs → ⊥
+  pub whole : DependsOnly (λ l. (l < constants) ⊎ IsListed levels l) (some_differ ts qs)
+
+-- The new values are the old ones at the solution of "no pair differs" for these levels: the greatest is eliminated first, each
+-- level's own bit is its parameter, and elimination leaves nothing.
+pub record AreSolutionOf (old new : Seen) (qs : List (Node × Node)) : Type 0 where
+  pub levels : List ℕ
+  pub elimination : ArePairsLevels old.constants old.nodes.triples qs levels
+  pub none_left : (p : Bits) → rest levels (some_differ old.nodes.triples qs) p ≡ false
+  pub values : (x : ℕ) (p : Bits) → (view_of new).values x p ≡ (view_of old).values x (solved levels (some_differ old.nodes.triples qs) p)
+
 -- The equations are solved: the range, the slots' values as the solution of "no pair differs", what stays, and that at each
 -- pair of the range each slot has the value that it had.
 pub record AreUnified (old new : Seen) (qs : List (Node × Node)) : Type 0 where
   pub solved : AreSolved (view_of old) (view_of new) old.nodes.triples qs
-  pub solution : IsSolutionOf (view_of old) (view_of new) (some_differ old.nodes.triples qs) (λ p. false)
+  pub solution : AreSolutionOf old new qs
   pub values : OnlyValues old new
   pub slots : HasSameValues (view_of old) (view_of new)
 
@@ -56,6 +78,50 @@ pub record PairsCause (old new : Seen) (qs : List (Node × Node)) : Type 0 where
   pub rose : Rose old.nodes.fulls new.nodes.fulls
   pub below : (ls : List ℕ) → DependPairs old.nodes.triples qs ls → DependEach old.nodes.triples old.slots ls →
       old.nodes.budget < length old.nodes.triples + pairs_bound (length qs) (length old.slots) (length ls)
+
+-- ---- elimination over all pairs
+
+-- part k is 1 where the nodes of pair k differ
+abbrev pub AreDifferences : List Triple → List Triple → List (Node × Node) → List Node → Type 0
+AreDifferences old new [] [] = Unit {0}
+AreDifferences old new [] (n ∷ ns) = ⊥
+AreDifferences old new (q ∷ qs) [] = ⊥
+AreDifferences old new (q ∷ qs) (n ∷ ns) = (IsNode new n.0 × StandsFor new n.0 (differ old q.0.0 q.1.0)) × AreDifferences old new qs ns
+
+-- nodes that the differences of so many pairs add at most
+pub record DifferencesRoom (qs : List (Node × Node)) (old new : Store) : Type 0 where
+  pub most : (ls : List ℕ) → DependPairs old.triples qs ls → length new.triples ≤ length old.triples + length qs * (2 * 2 ^ length ls)
+
+-- the levels on which some part depends, but for the constants, the greatest first
+pub record ArePartsLevels (constants : ℕ) (ts : List Triple) (ns : List Node) (levels : List ℕ) : Type 0 where
+  pub falls : IsFalling levels
+  pub free : (l : ℕ) → IsListed levels l → constants ≤ l
+  pub needed : (l : ℕ) → IsListed levels l → Each (λ n. IsFree ts n.0 l) ns → ⊥
+  pub whole : Each (λ n. DependsOnly (λ l. (l < constants) ⊎ IsListed levels l) (function_of ts n.0)) ns
+
+-- The images of the levels, put in all at once, are the most general solution of "no pair differs"; none depends on a greater
+-- level that has one.
+pub record ArePairsGeneral (old new : List Triple) (constants : ℕ) (qs : List (Node × Node)) (images : Images) : Type 0 where
+  pub levels : List ℕ
+  pub elimination : ArePairsLevels constants old qs levels
+  pub none_left : (p : Bits) → rest levels (some_differ old qs) p ≡ false
+  pub rise : IsStrictlyIncreasing (map (λ i. i.0) images)
+  pub within : (l : ℕ) → IsListed (map (λ i. i.0) images) l → IsListed levels l
+  pub nodes : AreNodes new images
+  pub lower : AreLower new images
+  pub at : (p : Bits) → substituted new images p ≡ solved levels (some_differ old qs) p
+
+-- elimination leaves something somewhere
+pub record HavePairsNoSolution (ts : List Triple) (constants : ℕ) (qs : List (Node × Node)) : Type 0 where
+  pub levels : List ℕ
+  pub elimination : ArePairsLevels constants ts qs levels
+  pub at : Bits
+  pub left : rest levels (some_differ ts qs) at ≡ true
+
+-- nodes that solving the equations adds at most, where they depend on the levels of the list alone
+pub record PairsSidesRoom (qs : List (Node × Node)) (old new : Store) : Type 0 where
+  pub most : (ls : List ℕ) → DependPairs old.triples qs ls →
+      length new.triples ≤ length old.triples + length qs * (3 * 2 ^ length ls) + length ls * (6 * 2 ^ length ls + 2 ^ length ls * 2 ^ length ls)
 
 -- ---- pairs of slots
 

@@ -27,6 +27,7 @@ ghost use Rattle.cb_elim.specs.Moments.{Moment, IsMoment, KeepsMoments, changes_
 mod equation;
 mod expression;
 mod pairs;
+mod parts;
 mod watch;
 
 use cb_dd::{DdMark, Node, Stop};

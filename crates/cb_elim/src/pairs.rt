@@ -1,6 +1,6 @@
 //! Many equations at once.
 
-ghost use Rattle.std.specs.Prelude.{◌≡◌, ◌↔◌, IsTrue, true, false, Ok, Err};
+ghost use Rattle.std.specs.Prelude.{◌≡◌, ◌↔◌, IsTrue, true, false, length, Ok, Err};
 ghost use Rattle.cb_model.specs.Bits.{Each};
 ghost use Rattle.cb_solution.specs.Solution.{has_refused};
 ghost use Rattle.cb_elim.specs.Store.{IsStore, IsAsBefore, OnlyNodes, view_of};
@@ -8,15 +8,16 @@ ghost use Rattle.cb_elim.specs.Moments.{KeepsMoments};
 ghost use Rattle.cb_elim.specs.Pairs.{AreArguments, AreSame, AreUnified, HaveNone, PairsCause, PairsRoom};
 
 use crate::Store;
+use crate::parts::most_general_of;
 use cb_dd::{Node, Stop};
-use cb_solution::differ;
 
 impl Store {
     /// Adds the equations of the pairs, all at once, and says whether they can be solved with those before. Then the
     /// slots' values are the most general ones again. After `Ok(false)` and after a stop the store is as before, but for
     /// its count of refusals for nodes.
     ///
-    /// One elimination of the equation "no pair differs" (Boole 1854).
+    /// One elimination of the equation "no pair differs" (Boole 1854); each level is eliminated from those pairs alone that
+    /// depend on it (bucket elimination, Dechter 1999), so that pairs without a common level don't meet.
     pub fn unify_all(&mut self, pairs: &[(Node, Node)]) -> Result<bool, Stop>
         requires store { IsStore self.old }
         requires arguments { AreArguments self.old pairs.now }
@@ -53,14 +54,19 @@ impl Store {
         requires arguments { AreArguments self.old pairs.now }
         ensures unified { result ≡ Ok true → AreUnified self.old self.new pairs.now }
         ensures none { result ≡ Ok false → HaveNone (view_of self.old) self.old.nodes.triples pairs.now }
+        ensures store { result ≡ Ok true → IsStore self.new }
         ensures only_nodes { (result ≡ Ok true → ⊥) → OnlyNodes self.old self.new }
         ensures room { PairsRoom self.old.slots pairs.now self.old.nodes self.new.nodes }
-        ensures nodes { result ≡ Err Stop.Nodes → PairsCause self.old self.new pairs.now }
+        ensures full { result ≡ Err Stop.Nodes → length self.new.nodes.triples ≡ self.new.nodes.budget }
         ensures fulls { self.new.nodes.fulls ≡ has_refused self.old.nodes.fulls result }
-        ensures store { IsStore self.new }
     {
-        let all = differ(&mut self.ops, pairs)?;
-        self.unify(all, Node::ZERO)
+        let alloc = *self.slots.allocator();
+        let found = most_general_of(alloc, &mut self.ops, self.constants, pairs)?;
+        let Some(images) = found else {
+            return Ok(false);
+        };
+        self.put_in(&images)?;
+        Ok(true)
     }
 }
 

@@ -1,9 +1,11 @@
-use Rattle.std.proofs.Common.{Bool, Ok, Err, length, refl, ap, ◌∙◌, arith}
+use Rattle.std.proofs.Common.{Bool, Result, Ok, Err, length, refl, ap, ◌∙◌, arith}
+use Rattle.cb_dd.specs.declared.Stop.{Stop}
+use Rattle.cb_solution.specs.Solution.{has_refused}
 use Rattle.cb_elim.specs.Store.{Seen}
 use Rattle.cb_elim.proofs.Inside.{seen}
 use Rattle.cb_elim.proofs.Kept.{watched-refused}
 use Rattle.cb_elim.proofs.Equations.{keeps-values, keeps-before, store-before, cut-before, not-true, stop-not-true}
-use Rattle.cb_elim.proofs.Together.{cause-cut, pairs-room-before, pairs-room-none, same-unified}
+use Rattle.cb_elim.proofs.Together.{pairs-cause, pairs-room-before, pairs-room-none, same-unified}
 use Rattle.cb_elim.proofs.Store.unify_all.Goals as goal
 
 pub returns-then-are_same-clause-unified : goal.returns-then-are_same-clause-unified
@@ -78,4 +80,6 @@ invariant_of-self-in-Err c =
     c.self-2.invariant
 
 pub returns-in-Err-clause-nodes : goal.returns-in-Err-clause-nodes
-returns-in-Err-clause-nodes c = λ e. cause-cut c.args.self.now c.solve_all.new.self _ c.args.pairs.now (c.in-Err.ensures.nodes e) (c.cut-in-Err.ensures.fulls ∙ ap (λ (s : Seen). s.nodes.fulls) c.self-2.view_is)
+returns-in-Err-clause-nodes c = λ e.
+    pairs-cause c.args.self.now c.solve_all.new.self _ c.args.pairs.now (c.in-Err.ensures.only_nodes (stop-not-true (Err c.in-Err.stop) c.in-Err.stop refl)) c.in-Err.ensures.room (c.in-Err.ensures.full e)
+    (c.in-Err.ensures.fulls ∙ ap (λ (r : Result Bool Stop). has_refused c.args.self.now.nodes.fulls r) e) (c.cut-in-Err.ensures.fulls ∙ ap (λ (s : Seen). s.nodes.fulls) c.self-2.view_is)
