@@ -5,7 +5,7 @@ use Rattle.std.proofs.lemmas.List.Elements.{All-contains, Contains-append_left, 
 use Rattle.cb_model.specs.Order.{IsGraph}
 
 contains-in : (g : List (List ℕ)) (i n : ℕ) → Contains (slice_index_or g i []) n → Contains (flat_map (λ xs. xs) g) n
-contains-in [] i n c = absurd (omega (arith, c.1.0))
+contains-in [] i n c = absurd (omega (arith, c.1))
 contains-in (x ∷ xs) zero n c = Contains-append_left x (flat_map (λ ys. ys) xs) n c
 contains-in (x ∷ xs) (suc i) n c = Contains-append_right x (flat_map (λ ys. ys) xs) n (contains-in xs i n c)
 

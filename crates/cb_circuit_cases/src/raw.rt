@@ -1,8 +1,9 @@
 //! Facts of modules and specifications by numbers.
 
 ghost use Rattle.std.specs.Prelude.{◌≡◌, true, map};
+ghost use Rattle.std.specs.List.{list_all};
 ghost use Rattle.cb_model.specs.Forms.{clause_form, form_of};
-ghost use Rattle.cb_model.specs.Written.{AreClauses, clause_written, is_written};
+ghost use Rattle.cb_model.specs.Written.{clause_written, is_written};
 
 use crate::orders::push_numbers;
 use cb_facts::{RawModule, RawSpec, read_module, read_spec};
@@ -27,7 +28,7 @@ pub(crate) fn tell_heads(alloc: Global, text: &[u8], out: &mut Vec<u8>) -> Resul
 
 // The same of clauses.
 fn tell_clauses(alloc: Global, clauses: &[RawClause<'_>], out: &mut Vec<u8>) -> Result<(), Fail>
-    requires { AreClauses 4194304 (map clause_form clauses.now) }
+    requires { list_all clause_written (map clause_form clauses.now) ≡ true }
 {
     for clause in clauses {
         tell_clause(alloc, clause, out)?;
@@ -49,18 +50,31 @@ fn tell_clause(alloc: Global, clause: &RawClause<'_>, out: &mut Vec<u8>) -> Resu
 fn tell_head(alloc: Global, head: &RawTerm<'_>, out: &mut Vec<u8>) -> Result<(), Fail>
     requires { is_written (form_of head.now) ≡ true }
 {
-    if let Some(module) = read_module(alloc, head)? {
-        let told = push_module(&module, out);
-        drop(module);
-        return told;
+    match read_module(alloc, head)? {
+        Some(module) => {
+            let told = push_module(&module, out);
+            drop(module);
+            told
+        }
+        None => tell_spec(alloc, head, out),
     }
-    if let Some(spec) = read_spec(alloc, head)? {
-        let told = push_spec(&spec, out);
-        drop(spec);
-        return told;
+}
+
+// The same of a head that is no module's.
+fn tell_spec(alloc: Global, head: &RawTerm<'_>, out: &mut Vec<u8>) -> Result<(), Fail>
+    requires { is_written (form_of head.now) ≡ true }
+{
+    match read_spec(alloc, head)? {
+        Some(spec) => {
+            let told = push_spec(&spec, out);
+            drop(spec);
+            told
+        }
+        None => {
+            writeln!(out, "neither")?;
+            Ok(())
+        }
     }
-    writeln!(out, "neither")?;
-    Ok(())
 }
 
 // Writes a module: its name, its nets in the order of their numbers, how many of them are inputs, the nets of its outputs
