@@ -49,8 +49,8 @@ returns-in-Same-clause-says g c =
     (g.O.Sink.written c.args.out.now) (g.O.Sink.written c.same.new.out) c.same.result)
     (sym c.in-Same.is) (
       refl,
-      subst (λ (x : Text). Tells (SameOver (holds c.args.file.now) x c.in-Same.two.now (nodes_view c.in-Same.nodes)) (g.O.Sink.written c.args.out.now) (g.O.Sink.written c.same.new.out) c.same.result) c.as_bytes.ensures.value
-          (subst (λ (y : Text). Tells (SameOver (holds c.args.file.now) c.as_bytes.result.now y (nodes_view c.in-Same.nodes)) (g.O.Sink.written c.args.out.now) (g.O.Sink.written c.same.new.out) c.same.result) c.as_bytes-2.ensures.value
+      subst (λ (x : Text). Tells (SameOver (holds c.args.file.now) x c.in-Same.two.now (nodes_view c.in-Same.nodes)) (g.O.Sink.written c.args.out.now) (g.O.Sink.written c.same.new.out) c.same.result) c.as_bytes-in-Same.ensures.value
+          (subst (λ (y : Text). Tells (SameOver (holds c.args.file.now) c.as_bytes-in-Same.result.now y (nodes_view c.in-Same.nodes)) (g.O.Sink.written c.args.out.now) (g.O.Sink.written c.same.new.out) c.same.result) c.as_bytes-in-Same-2.ensures.value
           c.same.ensures.says),
     )
 
