@@ -49,9 +49,19 @@ pub fn chipbool<F: Files, I: Source, O: Sink>(
 #[derive(Clone, Copy)]
 enum Task<'w> {
     Check,
-    Run { resolutions: u32, nodes: Nodes },
-    Verify { name: &'w str, nodes: Nodes },
-    Same { one: &'w str, two: &'w str, nodes: Nodes },
+    Run {
+        resolutions: u32,
+        nodes: Nodes,
+    },
+    Verify {
+        name: &'w str,
+        nodes: Nodes,
+    },
+    Same {
+        one: &'w str,
+        two: &'w str,
+        nodes: Nodes,
+    },
 }
 
 // Runs a command, or refuses words that name none.
