@@ -41,7 +41,13 @@ fn tell_clauses(alloc: Global, clauses: &[RawClause<'_>], out: &mut Vec<u8>) -> 
 // The same of circuits.
 fn tell_last(alloc: Global, circuits: &Circuits<'_>, out: &mut Vec<u8>) -> Result<(), Fail> {
     let count = circuits.modules();
-    if count > 0 && circuits.inputs(count - 1) == 2 {
+    if count == 0 {
+        return Ok(());
+    }
+    let circuit = circuits.flat(alloc, count - 1)?;
+    let inputs = circuit.inputs;
+    drop(circuit);
+    if inputs == 2 {
         return tell_of_two(alloc, circuits, count - 1, out);
     }
     Ok(())
