@@ -1,5 +1,6 @@
 #!/usr/bin/env python3
-"""Everyday circuits with their ports bus after bus, each with a specification or with a second module that does the same.
+"""Everyday circuits with their ports bus after bus (in `select_adder` the two buses take turns), each with a specification
+or with a second module that does the same.
 
 circuits.py list                         the names and sizes of the table, a line each
 circuits.py NAME SIZE FOLDER [wrong]     writes in the folder
@@ -18,12 +19,16 @@ SIZES = [
     ("ripple_adder", (16, 32, 64, 128)),
     ("lookahead_adder", (16, 32, 64)),
     ("prefix_adder", (16, 32, 64)),
+    ("select_adder", (16, 32, 64)),
+    ("incrementer", (16, 32, 64)),
     ("comparator", (32, 64, 128)),
     ("multiplexer", (16, 64, 256)),
+    ("priority", (32, 64, 128)),
     ("alu_slice", (8, 16, 32)),
+    ("alu", (8, 16, 32)),
     ("shifter", (16, 32, 64)),
     ("register_file", (8, 16, 32)),
-    ("multiplier", (4, 6, 8)),
+    ("multiplier", (4, 6, 8, 9)),
     ("chain", (1000, 10000, 100000)),
 ]
 GATES = {"zero", "one", "buf", "not", "and", "or", "xor", "nand", "nor", "xnor", "mux"}
@@ -126,9 +131,9 @@ def full_adder(half):
     return full
 
 
-def ripple(width):
+def ripple(width, ports=None):
     full = full_adder(half_adder())
-    module = Module("ripple", bus("A", width) + bus("B", width) + ["C"])
+    module = Module("ripple", ports or bus("A", width) + bus("B", width) + ["C"])
     carry, sums = "C", []
     for k in range(width):
         total, carry = module.add(full, [f"A{k}", f"B{k}", carry])
@@ -181,6 +186,63 @@ def prefix(width):
     carries = ["C"] + [module.add("or", [g, module.add("and", [p, "C"])]) for p, g in spans]
     module.outputs = [module.add("xor", [p, c]) for (p, _), c in zip(pairs, carries)] + [carries[width]]
     return module
+
+
+def select(width):
+    """Blocks of four bits, each added with both carries that can come, of which the carry that comes chooses."""
+    half = half_adder()
+    full = full_adder(half)
+    block = Module("block", bus("A", 4) + bus("B", 4) + ["C"])
+    ways = []
+    for constant in ("zero", "one"):
+        carry, line = block.add(constant, []), []
+        for k in range(4):
+            total, carry = block.add(full, [f"A{k}", f"B{k}", carry])
+            line.append(total)
+        ways.append(line + [carry])
+    block.outputs = [block.add("mux", ["C", *pair]) for pair in zip(*ways)]
+    ports = [f"{letter}{k}" for k in range(width) for letter in "AB"] + ["C"]
+    module, carry, found = Module("select", ports), "C", []
+    for low in range(0, width, 4):
+        four = range(low, low + 4)
+        *line, carry = module.add(block, [f"A{k}" for k in four] + [f"B{k}" for k in four] + [carry])
+        found += line
+    module.outputs = found + [carry]
+    return module, ripple(width, ports)
+
+
+def incrementer(width):
+    half = half_adder()
+    module, found = Module("incrementer", bus("A", width)), []
+    carry = module.add("one", [])
+    for k in range(width):
+        total, carry = module.add(half, [f"A{k}", carry])
+        found.append(total)
+    module.outputs = found + [carry]
+    ones = [bus("A", k) for k in range(width + 1)]
+    wanted = [("not", ["A0"])] + [("xor", [f"A{k}", ("and", ones[k])]) for k in range(1, width)]
+    return module, wanted + [("and", ones[width])]
+
+
+def priority(size):
+    """The number of the greatest place that is 1, and whether there is one: place after place, and by halves."""
+    ports = bus("D", size)
+    one, two = Module("priority", ports), Module("halves", ports)
+    found, zero, single = "D0", one.add("zero", []), one.add("one", [])
+    bits = [zero] * log(size)
+    for k in range(1, size):
+        here = [single if k >> b & 1 else zero for b in range(log(size))]
+        bits = [one.add("mux", [f"D{k}", bit, own]) for bit, own in zip(bits, here)]
+        found = one.add("or", [found, f"D{k}"])
+    one.outputs = bits + [found]
+    parts = [([], place) for place in ports]
+    while len(parts) > 1:
+        pairs, parts = list(zip(parts[::2], parts[1::2])), []
+        for (low, some), (high, other) in pairs:
+            bits = [two.add("mux", [other, *pair]) for pair in zip(low, high)]
+            parts.append((bits + [two.add("buf", [other])], two.add("or", [some, other])))
+    two.outputs = parts[0][0] + [parts[0][1]]
+    return one, two
 
 
 def comparator(width):
@@ -239,6 +301,45 @@ def alu(width):
         less, down = two.add(full, [a, two.add("not", [b]), down])
         four = [total, less, two.add("and", [a, b]), two.add("or", [a, b])]
         two.outputs.append(chosen(two, four, ["F0", "F1"]))
+    return one, two
+
+
+def alu_with_flag(width):
+    """The sum, the difference, the product bit by bit, the sum bit by bit, the exclusive sum, and whether the first bus is
+    less, by three selects that stand last; behind the bits a flag that all of them are 0. In the second module each function
+    has gates of its own, and products of the selects choose."""
+    full, ports = full_adder(half_adder()), bus("A", width) + bus("B", width) + ["F0", "F1", "F2"]
+    one, two = Module("alu", ports), Module("six", ports)
+    carry, totals, zero = "F0", [], one.add("zero", [])
+    for k in range(width):
+        total, carry = one.add(full, [f"A{k}", one.add("xor", [f"B{k}", "F0"]), carry])
+        totals.append(total)
+    less = one.add("not", [carry])
+    for k in range(width):
+        pins = [f"A{k}", f"B{k}"]
+        both, some, odd = [one.add(kind, pins) for kind in ("and", "or", "xor")]
+        low = one.add("mux", ["F1", totals[k], one.add("mux", ["F0", both, some])])
+        last = less if k == 0 else zero
+        high = one.add("mux", ["F1", one.add("mux", ["F0", odd, last]), zero])
+        one.outputs.append(one.add("mux", ["F2", low, high]))
+    one.outputs.append(one.add("nor", list(one.outputs)))
+    up, down, sums_of, rests = two.add("zero", []), two.add("one", []), [], []
+    for k in range(width):
+        total, up = two.add(full, [f"A{k}", f"B{k}", up])
+        rest, down = two.add(full, [f"A{k}", two.add("not", [f"B{k}"]), down])
+        sums_of.append(total)
+        rests.append(rest)
+    off = [two.add("not", [f"F{k}"]) for k in range(3)]
+    chooses = [two.add("and", [f"F{b}" if f >> b & 1 else off[b] for b in range(3)]) for f in range(6)]
+    for k in range(width):
+        pins = [f"A{k}", f"B{k}"]
+        values = [sums_of[k], rests[k]] + [two.add(kind, pins) for kind in ("and", "or", "xor")]
+        values += [two.add("not", [down])] if k == 0 else []
+        two.outputs.append(two.add("or", [two.add("and", list(pair)) for pair in zip(chooses, values)]))
+    some = two.outputs[0]
+    for out in two.outputs[1:]:
+        some = two.add("or", [some, out])
+    two.outputs.append(two.add("not", [some]))
     return one, two
 
 
@@ -324,7 +425,8 @@ def case(name, size):
         return lookahead(size), ripple(size)
     if name == "prefix_adder":
         return prefix(size), ripple(size)
-    makers = {"comparator": comparator, "multiplexer": multiplexer, "alu_slice": alu, "shifter": shifter,
+    makers = {"select_adder": select, "incrementer": incrementer, "comparator": comparator, "multiplexer": multiplexer,
+              "priority": priority, "alu_slice": alu, "alu": alu_with_flag, "shifter": shifter,
               "register_file": register_file, "multiplier": multiplier, "chain": chain}
     return makers[name](size)
 
