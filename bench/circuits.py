@@ -322,7 +322,10 @@ def alu_with_flag(width):
         last = less if k == 0 else zero
         high = one.add("mux", ["F1", one.add("mux", ["F0", odd, last]), zero])
         one.outputs.append(one.add("mux", ["F2", low, high]))
-    one.outputs.append(one.add("nor", list(one.outputs)))
+    some = one.outputs
+    while len(some) > 8:
+        some = [one.add("or", some[k:k + 8]) for k in range(0, len(some), 8)]
+    one.outputs.append(one.add("nor", some))
     up, down, sums_of, rests = two.add("zero", []), two.add("one", []), [], []
     for k in range(width):
         total, up = two.add(full, [f"A{k}", f"B{k}", up])

@@ -27,7 +27,7 @@ fn deepen(depths: &mut [u32], inputs: u32, at: usize, gate: &Gate) {
 
 /// For each gate how many gates lie one behind another up to its output, as far as a pass over the gates in their order
 /// and one back tell: where each stands after those whose outputs it takes, or each before them, it is that number.
-pub fn depths(alloc: Global, circuit: &Circuit) -> Result<Vec<u32>, AllocError> {
+pub(crate) fn depths(alloc: Global, circuit: &Circuit) -> Result<Vec<u32>, AllocError> {
     let gates = circuit.gates.as_slice();
     let mut depths = vec![in alloc; 0; gates.len()]?;
     for (at, gate) in gates.iter().enumerate() {
@@ -40,7 +40,7 @@ pub fn depths(alloc: Global, circuit: &Circuit) -> Result<Vec<u32>, AllocError> 
 }
 
 /// The place of the deepest net, the last of those that are as deep; 0 where there is none.
-pub fn deepest(depths: &[u32], inputs: u32, nets: &[u32]) -> usize
+pub(crate) fn deepest(depths: &[u32], inputs: u32, nets: &[u32]) -> usize
     ensures { result ≤ length nets.now }
 {
     let mut place = 0;
