@@ -76,7 +76,7 @@ first_at at zero k a h = absurd (omega arith)
 first_at at (suc n) zero a h = ap a (omega arith)
 first_at at (suc n) (suc k) a h = first_at (suc at) n k a (omega arith) ∙ ap a (omega arith)
 
-agree_first : (n : ℕ) (a : Bits) → AgreeBelow n (bits_of (first_bits n a)) a
+pub agree_first : (n : ℕ) (a : Bits) → AgreeBelow n (bits_of (first_bits n a)) a
 agree_first n a k h = first_at 0 n k a h ∙ ap a (omega arith)
 
 -- ---- pairs
@@ -165,8 +165,11 @@ first_same at (suc n) a a' h =
     let rest : map a (numbers_from (suc at) n) ≡ map a' (numbers_from (suc at) n) = first_same (suc at) n a a' (λ k l. h k (omega arith)) in
     rw (here, rest)
 
-abbrev trimmed : ℕ → Bits → Bits
+abbrev pub trimmed : ℕ → Bits → Bits
 trimmed c a = bits_of (first_bits c a)
+
+pub same_trimmed : (c : ℕ) (a a' : Bits) → AgreeBelow c a a' → trimmed c a ≡ trimmed c a'
+same_trimmed c a a' e = ap bits_of (first_same 0 c a a' (λ k l. e k (omega arith)))
 
 pub solvable_by_tables_below : SolvableByTablesBelow
 solvable_by_tables_below t c v es s = (

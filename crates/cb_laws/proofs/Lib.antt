@@ -8,6 +8,8 @@ pub mod Begins
 pub mod Printed
 pub mod Depends
 pub mod Decided
+pub mod DependsTrees
+pub mod Merged
 pub mod Shapes
 pub mod Fixed
 pub mod OneReading

@@ -15,7 +15,7 @@ use Rattle.cb_model.specs.Facts.{Circuits, FactRefusal, FactsRead}
 use Rattle.cb_model.specs.Bits.{Bits, Each, bits_of, some_bits, every_bits, xor}
 use Rattle.cb_model.specs.Text.{Text}
 use Rattle.cb_model.specs.Values.{Admitted, World, expr_value, in_scope, tree_in_scope}
-use Rattle.cb_model.specs.Equations.{Item, Pair, Solvable, Refuted, Table, ReadsBelow, Substitution, Solves}
+use Rattle.cb_model.specs.Equations.{Item, Pair, Solvable, Refuted, Table, ReadsBelow, Substitution, Solves, ReadsOnly, item_in_scope}
 use Rattle.cb_model.specs.Program.{Program}
 use Rattle.cb_model.specs.Derivation.{Ready, Entry, Branch, Step, Query, Note, End, Plain, SoFar, printed_of}
 use Rattle.cb_model.specs.Answers.{leaves, IsShape, Gives, Denotes}
@@ -70,6 +70,14 @@ SolvableByTablesBelow = (w : World) (c v : ℕ) (es : List Equal) → pairs_in_s
 -- equations of all sorts and circuit items that have a solution in the algebra are solvable
 abbrev pub SolutionGivesValues : Type 0
 SolutionGivesValues = (w : World) (es : List Item) (s : Substitution) → Solves w es s → Solvable w es
+
+-- each item has only constants below c and variables below v
+abbrev pub InScope : ℕ → ℕ → List Item → Type 0
+InScope c v es = list_all (item_in_scope c v) es ≡ true
+
+-- equations of all three sorts and circuit items are solvable exactly where they have a solution in the algebra over the c constants
+abbrev pub SolvableInAlgebra : Type 0
+SolvableInAlgebra = (w : World) (c v : ℕ) (es : List Item) → InScope c v es → Solvable w es ↔ ((s : Substitution) × (ReadsOnly c s × Solves w es s))
 
 -- ---- the derivation
 

@@ -1,29 +1,21 @@
 -- Laws of the definitions that are stated and not proved: no contract names them.
-use Rattle.std.specs.Prelude.{◌≡◌, ℕ, ◌+◌, ◌*◌, ◌≤◌, ◌⊎◌, true, List, length, Some, codes, ◌↔◌}
-use Rattle.std.specs.List.{list_all}
+use Rattle.std.specs.Prelude.{◌≡◌, ℕ, ◌+◌, ◌*◌, ◌≤◌, ◌⊎◌, List, length, Some, codes}
 use Rattle.cb_model.specs.declared.Tree.{Tree}
 use Rattle.cb_model.specs.declared.Goal.{Goal}
 use Rattle.cb_model.specs.declared.Outcome.{Outcome}
 use Rattle.cb_model.specs.Text.{Text, IsPrefix}
 use Rattle.cb_model.specs.Values.{World}
 use Rattle.cb_model.specs.Circuits.{Module, circuit_of, flat_named, Agrees, BySpec}
-use Rattle.cb_model.specs.Equations.{Item, Solvable, Refuted, Substitution, ReadsOnly, Solves, item_in_scope}
+use Rattle.cb_model.specs.Equations.{Item, Solvable, Refuted}
 use Rattle.cb_model.specs.Program.{Program}
 use Rattle.cb_model.specs.Derivation.{Ready}
 use Rattle.cb_model.specs.Answers.{IsShape}
 use Rattle.cb_model.specs.Facts.{Spec}
 use Rattle.cb_model.specs.Adder.{adder_text}
 use Rattle.cb_model.specs.Output.{Loaded, IsLoaded, module_named, spec_named, Output, OutputBegins}
+use Rattle.cb_laws.specs.Laws.{InScope}
 
--- each item has only constants below c and variables below v
-abbrev pub InScope : ℕ → ℕ → List Item → Type 0
-InScope c v es = list_all (item_in_scope c v) es ≡ true
-
--- equations of all three sorts and circuit items are solvable exactly where they have a solution in the algebra over the c constants
-abbrev pub SolvableInAlgebra : Type 0
-SolvableInAlgebra = (w : World) (c v : ℕ) (es : List Item) → InScope c v es → Solvable w es ↔ ((s : Substitution) × (ReadsOnly c s × Solves w es s))
-
--- they are solvable or refuted
+-- equations of all sorts and circuit items are solvable or refuted
 abbrev pub Decided : Type 0
 Decided = (w : World) (c v : ℕ) (es : List Item) → InScope c v es → Solvable w es ⊎ Refuted w es
 
