@@ -133,10 +133,10 @@ pub fn read_within<I: Source>(source: &mut I, into: &mut Vec<u8>, limit: u64) ->
         if n == 0 {
             return Load::Done;
         }
-        if into.extend_from_slice(&piece[..n]).is_err() {
+        let Ok(()) = into.extend_from_slice(&piece[..n]) else {
             into.clear();
             return Load::Memory;
-        }
+        };
     }
     Load::Long
 }
