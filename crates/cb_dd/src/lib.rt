@@ -15,6 +15,13 @@ use std::hash::{Hash, Hasher};
 use std::marker::Model;
 use thiserror::Error;
 
+/// Up to how many nodes the table grows by four, so that few nodes of a small store are placed anew; a larger table
+/// grows by two.
+const SMALL_TABLE: usize = 36_864;
+
+/// For how many nodes a table has room when it first grows.
+const FIRST_ROOM: usize = 144;
+
 /// A node of a store, by its number: 0 and 1 are the constants, and the others count up in the order in which
 /// they were made. It belongs to the store that made it, until a cut takes it away.
 #[derive(Clone, Copy, PartialEq, Eq, Hash, Debug)]
@@ -255,8 +262,19 @@ fn find_or_add(table: &mut IndexSet<Triple>, triple: Triple) -> Result<usize, Al
     ensures refused { OnErr result (table.new.keys ≡ table.old.keys) }
     ensures absent { OnErr result (Holds table.old.keys triple → ⊥) }
 {
+    make_room(table);
     match table.insert_full(triple) {
         Ok((index, _)) => Ok(index),
         Err(_) => Err(AllocError),
+    }
+}
+
+// Gives a small table that is full four times its room, where there is memory.
+fn make_room(table: &mut IndexSet<Triple>)
+    ensures { table.new.keys ≡ table.old.keys }
+{
+    let len = table.len();
+    if len < SMALL_TABLE && len == table.capacity() {
+        let _ = table.reserve((4 * len).max(FIRST_ROOM) - len);
     }
 }

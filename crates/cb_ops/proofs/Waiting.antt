@@ -1,5 +1,5 @@
 -- The list of waiting calls: its answers, its room, and its end.
-use Rattle.std.proofs.Common.{◌≡◌, ℕ, ◌+◌, ◌*◌, ◌-◌, ◌<◌, ◌≤◌, ◌^◌, min, Bool, true, false, List, [], ◌∷◌, ◌++◌, length, if◌then◌else◌, Option, Some, None, IfSome, refl, sym, ap, subst, ◌∙◌, inl, inr, arith, nat_eq, sum_by, rules, Result, Err}
+use Rattle.std.proofs.Common.{◌≡◌, ℕ, ◌+◌, ◌*◌, ◌-◌, ◌<◌, ◌≤◌, ◌^◌, min, Bool, true, false, List, [], ◌∷◌, ◌++◌, length, if◌then◌else◌, Option, Some, None, IfSome, ◌⊎◌, refl, sym, ap, subst, ◌∙◌, inl, inr, arith, nat_eq, sum_by, rules, Result, Err}
 use Rattle.std.proofs.lemmas.Bool.{cases_Bool, cases_lt, true≢false}
 use Rattle.std.proofs.lemmas.List.Sums.{sum_by_push}
 use Rattle.std.proofs.lemmas.Nat.{pow_pos, pow-add}
@@ -11,7 +11,7 @@ use Rattle.cb_dd.specs.declared.Node.{Node}
 use Rattle.cb_dd.specs.declared.Stop.{Stop}
 use Rattle.cb_dd.specs.declared.Stop.TheVariants.{Nodes, Memory}
 use Rattle.cb_dd.specs.Diagram.{Store, IsNode, IsDiagram, function_of, level_of}
-use Rattle.cb_dd.proofs.Diagrams.{function_of-put}
+use Rattle.cb_dd.proofs.Diagrams.{Kind, bottom, top, inner, kind_of, function_of-put, level_of-node}
 use Rattle.cb_ops.specs.declared.calls.Choice.{Choice}
 use Rattle.cb_ops.specs.declared.calls.Operation.{Operation}
 use Rattle.cb_ops.specs.declared.calls.Operation.TheVariants.{Ite, Xor}
@@ -21,7 +21,7 @@ use Rattle.cb_ops.specs.declared.calls.Left.TheVariants as left
 use Rattle.cb_ops.specs.declared.calls.Turn.{Turn}
 use Rattle.cb_ops.specs.declared.calls.Turn.TheVariants as turn
 use Rattle.cb_ops.specs.Ops.{Grows, IsIte, IsXor, DependsOn, DependAll, Room, HasCause}
-use Rattle.cb_ops.specs.Waiting.{combined, value_of, IsValue, AreCalled, IsPart, IsHalf, HasLeft, Waits, IsAnswered, Asked, Resumed, bit_of, made_of, fulls_after_turn}
+use Rattle.cb_ops.specs.Waiting.{combined, value_of, IsValue, AreCalled, IsPart, IsHalf, HasLeft, Waits, IsAnswered, IsOpen, IsPut, IsClosed, AskedHigh, Asked, Resumed, bit_of, fulls_after_turn}
 use Rattle.cb_ops.proofs.Ite.{put-id, essential, grown-node, grown-function, grown-level, grown-child, grown-cofactor, Grows-same, Grows-then, grown-depends, cofactor-depends, without, without-lt, listed, least-three}
 
 pub combined-all : (o : Operation) (b c x y z w : Bool) → b ≡ c → x ≡ z → y ≡ w → combined o b x y ≡ combined o c z w
@@ -194,28 +194,54 @@ asks ks = 2 ^ length ks - 1
 abbrev pub rests : List ℕ → ℕ
 rests ks = 0
 
--- a waiting call and its first cofactor may make as many as the call
-pub asked-room : (ts : List Triple) → IsDiagram ts → (x : Pending) (ks : List ℕ) → Waits ts x → bit_of x.left ≡ false → Depends ts x.call ks → rest_behind asks x ks + 0 ≤ asks ks
-asked-room ts is x ks w e d = elim (least-three x.level (level_of ts x.call.f.0) (level_of ts x.call.g.0) (level_of ts x.call.h.0) w.least) [
-  | inl p ↦ here (subst (λ k. list_any (nat_eq k) ks ≡ true) (sym p) (listed ts is x.call.f.0 ks w.call.f (omega (arith, w.small)) d.0))
+-- the least level of a call is among those on which it depends
+least-listed : (ts : List Triple) → IsDiagram ts → (c : Choice) (l : ℕ) (ks : List ℕ) → AreCalled ts c → l ≡ min (min (level_of ts c.f.0) (level_of ts c.g.0)) (level_of ts c.h.0) → l < 2 ^ 32 → Depends ts c ks → list_any (nat_eq l) ks ≡ true
+least-listed ts is c l ks w least small d = elim (least-three l (level_of ts c.f.0) (level_of ts c.g.0) (level_of ts c.h.0) least) [
+  | inl p ↦ subst (λ k. list_any (nat_eq k) ks ≡ true) (sym p) (listed ts is c.f.0 ks w.f (omega arith) d.0)
   | inr q ↦ elim q [
-    | inl p ↦ here (subst (λ k. list_any (nat_eq k) ks ≡ true) (sym p) (listed ts is x.call.g.0 ks w.call.g (omega (arith, w.small)) d.1.0))
-    | inr p ↦ here (subst (λ k. list_any (nat_eq k) ks ≡ true) (sym p) (listed ts is x.call.h.0 ks w.call.h (omega (arith, w.small)) d.1.1.0))
+    | inl p ↦ subst (λ k. list_any (nat_eq k) ks ≡ true) (sym p) (listed ts is c.g.0 ks w.g (omega arith) d.1.0)
+    | inr p ↦ subst (λ k. list_any (nat_eq k) ks ≡ true) (sym p) (listed ts is c.h.0 ks w.h (omega arith) d.1.1.0)
   ]
 ]
+
+level-inner : (ts : List Triple) → IsDiagram ts → (n : ℕ) → IsNode ts n → 2 ≤ n → level_of ts n < 2 ^ 32
+level-inner ts is n w two = elim (kind_of ts n w) [
+  | bottom e ↦ omega arith
+  | top e ↦ omega arith
+  | inner k t e at ↦ let lev : level_of ts n ≡ t.level = ap (level_of ts) e ∙ level_of-node ts k t at in let s : t.level < 2 ^ 32 = (is.ordered k t at).level in omega arith
+]
+
+-- the least level of a call that isn't plain
+open-level : (ts : List Triple) → IsDiagram ts → (c : Choice) → AreCalled ts c → IsOpen c → min (min (level_of ts c.f.0) (level_of ts c.g.0)) (level_of ts c.h.0) < 2 ^ 32
+open-level ts is c w (inl two) = let l = level-inner ts is c.f.0 w.f two in omega arith
+open-level ts is c w (inr two) = let l = level-inner ts is c.g.0 w.g two in omega arith
+
+-- a call that isn't plain may make a node
+pub open-room : (ts : List Triple) → IsDiagram ts → (c : Choice) (ks : List ℕ) → AreCalled ts c → IsOpen c → Depends ts c ks → rests ks + 1 ≤ asks ks
+open-room ts is c ks w opens d =
+    let l : ℕ = min (min (level_of ts c.f.0) (level_of ts c.g.0)) (level_of ts c.h.0) in
+    let k : ℕ = length (without l ks) + 1 in
+    let one : 1 ≤ k = omega arith in
+    let m : 2 ^ k ≤ 2 ^ length ks = pow_mono (without-lt l ks (least-listed ts is c l ks w refl (open-level ts is c w opens) d)) in
+    let n : 2 ^ 1 ≤ 2 ^ k = pow_mono one in
+    omega (arith, m, n)
+
+-- a waiting call and its cofactor may make as many as the call
+pub asked-room : (ts : List Triple) → IsDiagram ts → (x : Pending) (ks : List ℕ) → Waits ts x → Depends ts x.call ks → rest_behind asks x ks + 0 ≤ asks ks
+asked-room ts is x ks w d = within x.left
   where
-    twice : list_any (nat_eq x.level) ks ≡ true → 2 ^ length (without x.level ks) + 2 ^ length (without x.level ks) ≤ 2 ^ length ks
-    twice there =
-        let m : 2 ^ (length (without x.level ks) + 1) ≤ 2 ^ length ks = pow_mono (without-lt x.level ks there) in
+    twice : 2 ^ length (without x.level ks) + 2 ^ length (without x.level ks) ≤ 2 ^ length ks
+    twice =
+        let m : 2 ^ (length (without x.level ks) + 1) ≤ 2 ^ length ks = pow_mono (without-lt x.level ks (least-listed ts is x.call x.level ks w.call w.least w.small d)) in
         let f : 2 ^ (length (without x.level ks) + 1) ≡ 2 ^ length (without x.level ks) * 2 ^ 1 = pow-add 2 (length (without x.level ks)) 1 in
         omega arith
 
-    within : (l : Left) → bit_of l ≡ false → list_any (nat_eq x.level) ks ≡ true → after l (2 ^ length (without x.level ks)) + asks (without x.level ks) + 0 ≤ asks ks
-    within (left.High d) e there = let p : 0 < 2 ^ length (without x.level ks) = pow_pos (length (without x.level ks)) in omega (arith, twice there)
-    within (left.Low r) e there = absurd (true≢false e)
+    some : 0 < 2 ^ length (without x.level ks)
+    some = pow_pos (length (without x.level ks))
 
-    here : list_any (nat_eq x.level) ks ≡ true → rest_behind asks x ks + 0 ≤ asks ks
-    here there = within x.left e there
+    within : (l : Left) → after l (2 ^ length (without x.level ks)) + asks (without x.level ks) + 0 ≤ asks ks
+    within (left.High d) = omega (arith, twice, some)
+    within (left.Low r) = omega (arith, twice, some)
 
 -- when the first answer has come
 pub resumed-room : (x y : Pending) (ks : List ℕ) → x.level ≡ y.level → bit_of x.left ≡ true → bit_of y.left ≡ false → rest_behind asks x ks + 0 ≤ rest_behind rests y ks
@@ -232,12 +258,15 @@ resumed-room x y ks same e g = within x.left y.left e g
     within (left.Low r) (left.Low s) e g = absurd (true≢false g)
     within (left.Low r) (left.High d) e g = omega (arith, p, q)
 
--- and when the second has
-pub made-room : (y : Pending) (ks : List ℕ) → 0 + made_of y.left ≤ rest_behind rests y ks
-made-room y ks = within y.left
+-- and when the call is answered
+pub closed-room : (y : Pending) (ks : List ℕ) → rests ks + 1 ≤ rest_behind rests y ks
+closed-room y ks = within y.left
   where
-    within : (m : Left) → 0 + made_of m ≤ after m (2 ^ length (without y.level ks)) + 0
-    within (left.High d) = omega arith
+    some : 0 < 2 ^ length (without y.level ks)
+    some = pow_pos (length (without y.level ks))
+
+    within : (m : Left) → 0 + 1 ≤ after m (2 ^ length (without y.level ks)) + 0
+    within (left.High d) = omega (arith, some)
     within (left.Low r) = omega arith
 
 -- ---- the end
@@ -286,9 +315,9 @@ abbrev pub base_of : Turn → List ℕ → ℕ
 base_of (turn.Ask c) = asks
 base_of (turn.Answer r) = rests
 
--- the waiting calls wait for the call that is asked, or for the call whose answer has come
+-- the waiting calls wait for the call that is asked, which isn't plain, or for the call whose answer has come
 abbrev pub TurnIs : List Triple → Choice → List Pending → Turn → Type 0
-TurnIs ts from xs (turn.Ask c) = Chain ts from xs c
+TurnIs ts from xs (turn.Ask c) = Chain ts from xs c × IsOpen c
 TurnIs ts from xs (turn.Answer r) = (c : Choice) × (Chain ts from xs c × IsAnswered ts c r.0)
 
 -- what the loop keeps
@@ -300,64 +329,104 @@ pub record Going (s t : Store) (from : Choice) (xs : List Pending) (u : Turn) : 
   pub turn : TurnIs t.triples from xs u
   pub room : (ls : List ℕ) → Depends t.triples from ls → length t.triples + rest (base_of u) xs ls ≤ length s.triples + asks ls
 
-pub going-start : (s : Store) (from : Choice) → IsDiagram s.triples → AreCalled s.triples from → Going s s from [] (turn.Ask from)
-going-start s from is w = record { grows = Grows-same s; diagram = is; fulls = refl; called = w; turn = refl; room = λ ls d. omega arith }
+pub going-start : (s : Store) (from : Choice) → IsDiagram s.triples → AreCalled s.triples from → IsOpen from → Going s s from [] (turn.Ask from)
+going-start s from is w opens = record { grows = Grows-same s; diagram = is; fulls = refl; called = w; turn = (refl, opens); room = λ ls d. omega arith }
 
 pub going-called : (s t : Store) (from c : Choice) (xs : List Pending) (u : Turn) → u ≡ turn.Ask c → Going s t from xs u → AreCalled t.triples c
-going-called s t from c xs u e g = chain-called t.triples from xs c g.called (subst (TurnIs t.triples from xs) e g.turn)
+going-called s t from c xs u e g = chain-called t.triples from xs c g.called (subst (TurnIs t.triples from xs) e g.turn).0
 
-module _ (s t : Store) (from c : Choice) (xs ys : List Pending) where
-  pub going-asked : (v : Turn) → Going s t from xs (turn.Ask c) → Asked t.triples xs ys c v → Going s t from ys v
-  going-asked (turn.Answer r) g h = record {
+pub going-open : (s t : Store) (from c : Choice) (xs : List Pending) (u : Turn) → u ≡ turn.Ask c → Going s t from xs u → IsOpen c
+going-open s t from c xs u e g = (subst (TurnIs t.triples from xs) e g.turn).1
+
+-- the room also at a refusal
+pub refused-room : (s t v : Store) (from : Choice) (xs : List Pending) (u : Turn) → Going s t from xs u → v.triples ≡ t.triples → (ls : List ℕ) → Depends v.triples from ls → length v.triples ≤ length s.triples + asks ls
+refused-room s t v from xs u g same ls d =
+    let m = g.room ls (subst (λ ts. Depends ts from ls) same d) in
+    let n = ap (λ (ts : List Triple). length ts) same in
+    omega (arith, m, n)
+
+depends-before : (t u : Store) → Grows t u → (from : Choice) → AreCalled t.triples from → (ls : List ℕ) → Depends u.triples from ls → Depends t.triples from ls
+depends-before t u tu from w ls d = (back from.f.0 w.f d.0, (back from.g.0 w.g d.1.0, (back from.h.0 w.h d.1.1.0, tt)))
+  where
+    back : (n : ℕ) → IsNode t.triples n → DependsOn u.triples n ls → DependsOn t.triples n ls
+    back n w d = record { agrees = λ a b h. sym (grown-function t u tu n w a) ∙ d.agrees a b h ∙ grown-function t u tu n w b }
+
+-- what a waiting call may still take is no more before its first answer
+left-most : (level : ℕ) (l : Left) → left_work level l ≤ 2 * 2 ^ (2 ^ 32 - level) - 1
+left-most level (left.High d) = omega arith
+left-most level (left.Low r) = let q : 0 < 2 ^ (2 ^ 32 - level) = pow_pos (2 ^ 32 - level) in omega (arith, q)
+
+left-some : (level : ℕ) (l : Left) → 0 < left_work level l
+left-some level (left.High d) = let q : 0 < 2 ^ (2 ^ 32 - level) = pow_pos (2 ^ 32 - level) in omega (arith, q)
+left-some level (left.Low r) = omega arith
+
+left-first : (level : ℕ) (l : Left) → bit_of l ≡ false → left_work level l ≡ 2 * 2 ^ (2 ^ 32 - level) - 1
+left-first level (left.High d) e = refl
+left-first level (left.Low r) e = absurd (true≢false e)
+
+left-second : (level : ℕ) (l : Left) → bit_of l ≡ true → left_work level l ≡ 1
+left-second level (left.High d) e = absurd (true≢false (sym e))
+left-second level (left.Low r) e = refl
+
+-- a call that was put on the list: what is waited for, in the words of the waiting call
+put-part : (ts : List Triple) (xs ys : List Pending) (c d : Choice) (bit : Bool) (p : IsPut ts xs ys c bit d) → IsPart ts p.x.level (bit_of p.x.left) p.x.call d
+put-part ts xs ys c d bit p = subst (λ b. IsPart ts p.x.level b p.x.call d) (sym p.side) (subst (λ y. IsPart ts p.x.level bit y d) (sym p.call) p.part)
+
+module _ (s t : Store) (from c : Choice) (xs ys : List Pending) (g : Going s t from xs (turn.Ask c)) where
+  -- the call waits for a cofactor
+  put-going : (bit : Bool) (d : Choice) → IsPut t.triples xs ys c bit d → Going s t from ys (turn.Ask d)
+  put-going bit d p = record {
     grows = g.grows;
     diagram = g.diagram;
     fulls = g.fulls;
     called = g.called;
-    turn = (c, (subst (λ zs. Chain t.triples from zs c) (sym h.0) g.turn, h.1));
-    room = λ ls d.
-        let m : rest rests xs ls + 0 ≤ rest asks xs ls = rest-most t.triples rests asks 0 from xs c ls g.turn d (λ ks e. omega arith) in
-        let n : rest rests ys ls ≡ rest rests xs ls = ap (λ zs. rest rests zs ls) h.0 in
-        omega (arith, m, n, g.room ls d);
+    turn = (subst (λ zs. Chain t.triples from zs d) (sym p.items) (chain-push t.triples from xs p.x c d g.turn.0 p.call p.waits (put-part t.triples xs ys c d bit p)), p.opens);
+    room = λ ls e.
+        let m : rest (rest_behind asks p.x) xs ls + 0 ≤ rest asks xs ls =
+        rest-most t.triples (rest_behind asks p.x) asks 0 from xs c ls g.turn.0 e (λ ks f. asked-room t.triples g.diagram p.x ks p.waits (subst (λ y. Depends t.triples y ks) (sym p.call) f)) in
+        let n : rest asks ys ls ≡ rest (rest_behind asks p.x) xs ls = ap (λ zs. rest asks zs ls) p.items ∙ rest-last asks xs p.x ls in
+        omega (arith, m, n, g.room ls e);
   }
-  going-asked (turn.Ask d) g h =
-      let x : Pending = h.0 in
-      let w : Waits t.triples x = h.1.3 in
-      let called : AreCalled t.triples c = chain-called t.triples from xs c g.called g.turn in
-      let p : IsPart t.triples x.level (bit_of x.left) x.call d = subst (λ b. IsPart t.triples x.level b x.call d) (sym h.1.2) (subst (λ y. IsPart t.triples x.level false y d) (sym h.1.1) h.1.4) in
-      record {
-        grows = g.grows;
-        diagram = g.diagram;
-        fulls = g.fulls;
-        called = g.called;
-        turn = subst (λ zs. Chain t.triples from zs d) (sym h.1.0) (chain-push t.triples from xs x c d g.turn h.1.1 w p);
-        room = λ ls e.
-            let m : rest (rest_behind asks x) xs ls + 0 ≤ rest asks xs ls =
-            rest-most t.triples (rest_behind asks x) asks 0 from xs c ls g.turn e (λ ks f. asked-room t.triples g.diagram x ks w h.1.2 (subst (λ y. Depends t.triples y ks) (sym h.1.1) f)) in
-            let n : rest asks ys ls ≡ rest (rest_behind asks x) xs ls = ap (λ zs. rest asks zs ls) h.1.0 ∙ rest-last asks xs x ls in
-            omega (arith, m, n, g.room ls e);
-      }
 
-  pub asked-work : (v : Turn) → Going s t from xs (turn.Ask c) → Asked t.triples xs ys c v → work_of t.triples ys v < work_of t.triples xs (turn.Ask c)
-  asked-work (turn.Answer r) g h =
-      let e : sum_by work_left ys ≡ sum_by work_left xs = ap (sum_by work_left) h.0 in
-      let q : 0 < 2 ^ (2 ^ 32 - least_level t.triples c) = pow_pos (2 ^ 32 - least_level t.triples c) in
-      omega (arith, e, q)
-  asked-work (turn.Ask d) g h =
-      let x : Pending = h.0 in
-      let w : Waits t.triples x = h.1.3 in
-      let e : sum_by work_left ys ≡ sum_by work_left xs + work_left x = ap (sum_by work_left) h.1.0 ∙ work-last xs x in
-      let p : work (2 ^ 32 - least_level t.triples d) + 3 ≤ 2 * 2 ^ (2 ^ 32 - x.level) = work-part t.triples x.level false c d w.small h.1.4 in
-      let l : x.level ≡ least_level t.triples c = w.least ∙ ap (least_level t.triples) h.1.1 in
-      let k : 2 ^ (2 ^ 32 - x.level) ≡ 2 ^ (2 ^ 32 - least_level t.triples c) = ap (λ z. 2 ^ (2 ^ 32 - z)) l in
-      let here : work_left x ≡ 2 * 2 ^ (2 ^ 32 - x.level) - 1 = is_high x.level x.left h.1.2 in
-      let q : 0 < 2 ^ (2 ^ 32 - x.level) = pow_pos (2 ^ 32 - x.level) in
-      omega (arith, e, p, k, here, q)
-    where
-      is_high : (level : ℕ) (l : Left) → bit_of l ≡ false → left_work level l ≡ 2 * 2 ^ (2 ^ 32 - level) - 1
-      is_high level (left.High d) e = refl
-      is_high level (left.Low r) e = absurd (true≢false e)
+  put-work : (bit : Bool) (d : Choice) → IsPut t.triples xs ys c bit d → work_of t.triples ys (turn.Ask d) < work_of t.triples xs (turn.Ask c)
+  put-work bit d p =
+      let e : sum_by work_left ys ≡ sum_by work_left xs + work_left p.x = ap (sum_by work_left) p.items ∙ work-last xs p.x in
+      let m : work (2 ^ 32 - least_level t.triples d) + 3 ≤ 2 * 2 ^ (2 ^ 32 - p.x.level) = work-part t.triples p.x.level bit c d p.waits.small p.part in
+      let l : p.x.level ≡ least_level t.triples c = p.waits.least ∙ ap (least_level t.triples) p.call in
+      let k : 2 ^ (2 ^ 32 - p.x.level) ≡ 2 ^ (2 ^ 32 - least_level t.triples c) = ap (λ z. 2 ^ (2 ^ 32 - z)) l in
+      let here : work_left p.x ≤ 2 * 2 ^ (2 ^ 32 - p.x.level) - 1 = left-most p.x.level p.x.left in
+      let q : 0 < 2 ^ (2 ^ 32 - p.x.level) = pow_pos (2 ^ 32 - p.x.level) in
+      omega (arith, e, m, k, here, q)
 
-module _ (s t u : Store) (from : Choice) (xs ys zs : List Pending) (x : Pending) (r : Node) (last : xs ≡ zs ++ x ∷ []) (g : Going s t from xs (turn.Answer r)) where
+  module _ (u : Store) where
+    pub going-asked : Grows t u → IsDiagram u.triples → (v : Turn) → u.fulls ≡ t.fulls → Asked t u xs ys c v → Going s u from ys v
+    going-asked tu is (turn.Ask d) same h =
+        subst (λ (w : Store). Going s w from ys (turn.Ask d)) (sym h.0) (put-going h.1.0 d (subst (λ (w : Store). IsPut w.triples xs ys c h.1.0 d) h.0 h.1.1))
+    going-asked tu is (turn.Answer r) same h =
+        let chained : Chain u.triples from xs c = chain-grown t u tu from xs c g.turn.0 in
+        let called : AreCalled u.triples from = grown-called t u tu from g.called in
+        let here : AreCalled u.triples c = chain-called u.triples from xs c called chained in
+        record {
+          grows = Grows-then s t u g.grows tu;
+          diagram = is;
+          fulls = same ∙ g.fulls;
+          called = called;
+          turn = (c, (subst (λ zs. Chain u.triples from zs c) (sym h.items) chained, h.answer));
+          room = λ ls d.
+              let m : rest rests xs ls + 1 ≤ rest asks xs ls = rest-most u.triples rests asks 1 from xs c ls chained d (λ ks e. open-room u.triples is c ks here g.turn.1 e) in
+              let n : rest rests ys ls ≡ rest rests xs ls = ap (λ zs. rest rests zs ls) h.items in
+              omega (arith, m, n, h.one, g.room ls (depends-before t u tu from g.called ls d));
+        }
+
+    pub asked-work : (v : Turn) → Asked t u xs ys c v → work_of u.triples ys v < work_of t.triples xs (turn.Ask c)
+    asked-work (turn.Ask d) h =
+        subst (λ (w : Store). work_of w.triples ys (turn.Ask d) < work_of t.triples xs (turn.Ask c)) (sym h.0) (put-work h.1.0 d (subst (λ (w : Store). IsPut w.triples xs ys c h.1.0 d) h.0 h.1.1))
+    asked-work (turn.Answer r) h =
+        let e : sum_by work_left ys ≡ sum_by work_left xs = ap (sum_by work_left) h.items in
+        let q : 0 < 2 ^ (2 ^ 32 - least_level t.triples c) = pow_pos (2 ^ 32 - least_level t.triples c) in
+        omega (arith, e, q)
+
+module _ (s t : Store) (from : Choice) (xs ys zs : List Pending) (x : Pending) (r : Node) (last : xs ≡ zs ++ x ∷ []) (g : Going s t from xs (turn.Answer r)) where
   ended : Chain t.triples from zs x.call × Waits t.triples x × IsPart t.triples x.level (bit_of x.left) x.call g.turn.0
   ended = chain-last t.triples from zs x g.turn.0 (subst (λ ws. Chain t.triples from ws g.turn.0) last g.turn.1.0)
 
@@ -367,92 +436,66 @@ module _ (s t u : Store) (from : Choice) (xs ys zs : List Pending) (x : Pending)
   pub going-half : IsHalf t.triples x.level (bit_of x.left) x.call r.0
   going-half = part-answered t.triples g.diagram x g.turn.0 r.0 ended.1 ended.2 g.turn.1.1
 
-  module _ (tu : Grows t u) (is : IsDiagram u.triples) (one : length u.triples ≤ length t.triples + made_of x.left) where
-    called : AreCalled u.triples from
-    called = grown-called t u tu from g.called
+  -- the room before, in terms of the other waiting calls
+  before : (ls : List ℕ) → Depends t.triples from ls → length t.triples + rest (rest_behind rests x) zs ls ≤ length s.triples + asks ls
+  before ls d =
+      let n : rest rests xs ls ≡ rest (rest_behind rests x) zs ls = ap (λ ws. rest rests ws ls) last ∙ rest-last rests zs x ls in
+      omega (arith, n, g.room ls d)
 
-    chained : Chain u.triples from zs x.call
-    chained = chain-grown t u tu from zs x.call ended.0
+  work-before : sum_by work_left xs ≡ sum_by work_left zs + work_left x
+  work-before = ap (sum_by work_left) last ∙ work-last zs x
 
-    depends : (ls : List ℕ) → Depends u.triples from ls → Depends t.triples from ls
-    depends ls d = (back from.f.0 g.called.f d.0, (back from.g.0 g.called.g d.1.0, (back from.h.0 g.called.h d.1.1.0, tt)))
-      where
-        back : (n : ℕ) → IsNode t.triples n → DependsOn u.triples n ls → DependsOn t.triples n ls
-        back n w d = record { agrees = λ a b h. sym (grown-function t u tu n w a) ∙ d.agrees a b h ∙ grown-function t u tu n w b }
+  -- a call that was put on the list again has the level that it had
+  put-level : (d : Choice) (p : IsPut t.triples zs ys x.call true d) → p.x.level ≡ x.level
+  put-level d p = p.waits.least ∙ ap (least_level t.triples) p.call ∙ sym ended.1.least
 
-    -- the room before, in terms of the other waiting calls
-    before : (ls : List ℕ) → Depends u.triples from ls → length t.triples + rest (rest_behind rests x) zs ls ≤ length s.triples + asks ls
-    before ls d =
-        let n : rest rests xs ls ≡ rest (rest_behind rests x) zs ls = ap (λ ws. rest rests ws ls) last ∙ rest-last rests zs x ls in
-        omega (arith, n, g.room ls (depends ls d))
+  -- the call waits for its other cofactor
+  other-going : (d : Choice) → bit_of x.left ≡ false → IsPut t.triples zs ys x.call true d → Going s t from ys (turn.Ask d)
+  other-going d first p = record {
+    grows = g.grows;
+    diagram = g.diagram;
+    fulls = g.fulls;
+    called = g.called;
+    turn = (subst (λ ws. Chain t.triples from ws d) (sym p.items) (chain-push t.triples from zs p.x x.call d ended.0 p.call p.waits (put-part t.triples zs ys x.call d true p)), p.opens);
+    room = λ ls e.
+        let m : rest (rest_behind asks p.x) zs ls + 0 ≤ rest (rest_behind rests x) zs ls = rest-most t.triples (rest_behind asks p.x) (rest_behind rests x) 0 from zs x.call ls ended.0 e (λ ks f. resumed-room p.x x ks (put-level d p) p.side first) in
+        let n : rest asks ys ls ≡ rest (rest_behind asks p.x) zs ls = ap (λ ws. rest asks ws ls) p.items ∙ rest-last asks zs p.x ls in
+        omega (arith, m, n, before ls e);
+  }
 
-    -- the room also at a refusal
-    pub refused-room : (ls : List ℕ) → Depends u.triples from ls → length u.triples ≤ length s.triples + asks ls
-    refused-room ls d =
-        let m : rest rests zs ls + made_of x.left ≤ rest (rest_behind rests x) zs ls = rest-most u.triples rests (rest_behind rests x) (made_of x.left) from zs x.call ls chained d (λ ks e. made-room x ks) in
-        omega (arith, m, one, before ls d)
+  other-work : (d : Choice) → bit_of x.left ≡ false → IsPut t.triples zs ys x.call true d → work_of t.triples ys (turn.Ask d) < work_of t.triples xs (turn.Answer r)
+  other-work d first p =
+      let e : sum_by work_left ys ≡ sum_by work_left zs + work_left p.x = ap (sum_by work_left) p.items ∙ work-last zs p.x in
+      let m : work (2 ^ 32 - least_level t.triples d) + 3 ≤ 2 * 2 ^ (2 ^ 32 - x.level) = work-part t.triples x.level true x.call d ended.1.small (subst (λ l. IsPart t.triples l true x.call d) (put-level d p) p.part) in
+      let low : work_left p.x ≡ 1 = left-second p.x.level p.x.left p.side in
+      let high : work_left x ≡ 2 * 2 ^ (2 ^ 32 - x.level) - 1 = left-first x.level x.left first in
+      let q : 0 < 2 ^ (2 ^ 32 - x.level) = pow_pos (2 ^ 32 - x.level) in
+      omega (arith, e, work-before, m, low, high, q)
 
-    pub going-resumed : (v : Turn) → u.fulls ≡ t.fulls → Resumed u.triples zs ys x v → Going s u from ys v
-    going-resumed (turn.Answer n) same h = record {
-      grows = Grows-then s t u g.grows tu;
-      diagram = is;
-      fulls = same ∙ g.fulls;
-      called = called;
-      turn = (x.call, (subst (λ ws. Chain u.triples from ws x.call) (sym h.0) chained, h.2));
-      room = λ ls d.
-          let m : rest rests zs ls + made_of x.left ≤ rest (rest_behind rests x) zs ls = rest-most u.triples rests (rest_behind rests x) (made_of x.left) from zs x.call ls chained d (λ ks e. made-room x ks) in
-          let n : rest rests ys ls ≡ rest rests zs ls = ap (λ ws. rest rests ws ls) h.0 in
-          omega (arith, m, n, one, before ls d);
-    }
-    going-resumed (turn.Ask d) same h =
-        let y : Pending = h.1.0 in
-        let k = h.1.1 in
-        let none : made_of x.left ≡ 0 = no_node x.left h.0 in
-        let p : IsPart u.triples y.level (bit_of y.left) y.call d = subst (λ b. IsPart u.triples y.level b y.call d) (sym k.3) (subst (λ c. IsPart u.triples y.level true c d) (sym k.1) k.5) in
+  module _ (u : Store) where
+    pub going-resumed : Grows t u → IsDiagram u.triples → (v : Turn) → u.fulls ≡ t.fulls → Resumed t u zs ys x v → Going s u from ys v
+    going-resumed tu is (turn.Ask d) same h =
+        subst (λ (w : Store). Going s w from ys (turn.Ask d)) (sym h.0) (other-going d h.1 (subst (λ (w : Store). IsPut w.triples zs ys x.call true d) h.0 h.2))
+    going-resumed tu is (turn.Answer n) same h =
+        let chained : Chain u.triples from zs x.call = chain-grown t u tu from zs x.call ended.0 in
         record {
           grows = Grows-then s t u g.grows tu;
           diagram = is;
           fulls = same ∙ g.fulls;
-          called = called;
-          turn = subst (λ ws. Chain u.triples from ws d) (sym k.0) (chain-push u.triples from zs y x.call d chained k.1 k.4 p);
-          room = λ ls e.
-              let m : rest (rest_behind asks y) zs ls + 0 ≤ rest (rest_behind rests x) zs ls = rest-most u.triples (rest_behind asks y) (rest_behind rests x) 0 from zs x.call ls chained e (λ ks f. resumed-room y x ks k.2 k.3 h.0) in
-              let n : rest asks ys ls ≡ rest (rest_behind asks y) zs ls = ap (λ ws. rest asks ws ls) k.0 ∙ rest-last asks zs y ls in
-              omega (arith, m, n, one, none, before ls e);
+          called = grown-called t u tu from g.called;
+          turn = (x.call, (subst (λ ws. Chain u.triples from ws x.call) (sym h.items) chained, h.answer));
+          room = λ ls d.
+              let m : rest rests zs ls + 1 ≤ rest (rest_behind rests x) zs ls = rest-most u.triples rests (rest_behind rests x) 1 from zs x.call ls chained d (λ ks e. closed-room x ks) in
+              let n : rest rests ys ls ≡ rest rests zs ls = ap (λ ws. rest rests ws ls) h.items in
+              omega (arith, m, n, h.one, before ls (depends-before t u tu from g.called ls d));
         }
-      where
-        no_node : (l : Left) → bit_of l ≡ false → made_of l ≡ 0
-        no_node (left.High d) e = refl
-        no_node (left.Low r) e = absurd (true≢false e)
 
-    pub resumed-work : (v : Turn) → Resumed u.triples zs ys x v → work_of u.triples ys v < work_of t.triples xs (turn.Answer r)
-    resumed-work (turn.Answer n) h =
-        let e : sum_by work_left ys ≡ sum_by work_left zs = ap (sum_by work_left) h.0 in
-        let f : sum_by work_left xs ≡ sum_by work_left zs + work_left x = ap (sum_by work_left) last ∙ work-last zs x in
-        let some : work_left x ≡ 1 = is_low x.level x.left h.1 in
-        omega (arith, e, f, some)
-      where
-        is_low : (level : ℕ) (l : Left) → bit_of l ≡ true → left_work level l ≡ 1
-        is_low level (left.High d) e = absurd (true≢false (sym e))
-        is_low level (left.Low r) e = refl
+    pub resumed-work : (v : Turn) → Resumed t u zs ys x v → work_of u.triples ys v < work_of t.triples xs (turn.Answer r)
     resumed-work (turn.Ask d) h =
-        let y : Pending = h.1.0 in
-        let k = h.1.1 in
-        let e : sum_by work_left ys ≡ sum_by work_left zs + work_left y = ap (sum_by work_left) k.0 ∙ work-last zs y in
-        let f : sum_by work_left xs ≡ sum_by work_left zs + work_left x = ap (sum_by work_left) last ∙ work-last zs x in
-        let p : work (2 ^ 32 - least_level u.triples d) + 3 ≤ 2 * 2 ^ (2 ^ 32 - x.level) = work-part u.triples x.level true x.call d (ended.1.small) (subst (λ l. IsPart u.triples l true x.call d) k.2 k.5) in
-        let low : work_left y ≡ 1 = is_low y.level y.left k.3 in
-        let high : work_left x ≡ 2 * 2 ^ (2 ^ 32 - x.level) - 1 = is_high x.level x.left h.0 in
-        let q : 0 < 2 ^ (2 ^ 32 - x.level) = pow_pos (2 ^ 32 - x.level) in
-        omega (arith, e, f, p, low, high, q)
-      where
-        is_low : (level : ℕ) (l : Left) → bit_of l ≡ true → left_work level l ≡ 1
-        is_low level (left.High d) e = absurd (true≢false (sym e))
-        is_low level (left.Low r) e = refl
-
-        is_high : (level : ℕ) (l : Left) → bit_of l ≡ false → left_work level l ≡ 2 * 2 ^ (2 ^ 32 - level) - 1
-        is_high level (left.High d) e = refl
-        is_high level (left.Low r) e = absurd (true≢false e)
+        subst (λ (w : Store). work_of w.triples ys (turn.Ask d) < work_of t.triples xs (turn.Answer r)) (sym h.0) (other-work d h.1 (subst (λ (w : Store). IsPut w.triples zs ys x.call true d) h.0 h.2))
+    resumed-work (turn.Answer n) h =
+        let e : sum_by work_left ys ≡ sum_by work_left zs = ap (sum_by work_left) h.items in
+        omega (arith, e, work-before, left-some x.level x.left)
 
 -- the answer of the whole
 pub going-answer : (s t : Store) (from : Choice) (r : Node) → AreCalled s.triples from → Going s t from [] (turn.Answer r) → IsNode t.triples r.0 × IsValue s.triples t.triples from r.0

@@ -1,10 +1,10 @@
 -- The list of calls of `ite` and `xor` that wait for the answers of their cofactors.
-use Rattle.std.specs.Prelude.{◌≡◌, ℕ, ◌+◌, ◌-◌, ◌<◌, ◌^◌, min, Bool, true, false, List, [], ◌∷◌, ◌++◌, if◌then◌else◌, Result, Ok, Err}
+use Rattle.std.specs.Prelude.{◌≡◌, ℕ, ◌+◌, ◌-◌, ◌⊎◌, ◌<◌, ◌≤◌, ◌^◌, min, Bool, true, false, List, [], ◌∷◌, ◌++◌, length, if◌then◌else◌, Result, Ok, Err}
 use Rattle.cb_model.specs.Bits.{Bits, put, xor}
 use Rattle.cb_dd.specs.declared.Triple.{Triple}
 use Rattle.cb_dd.specs.declared.Stop.{Stop}
 use Rattle.cb_dd.specs.declared.Stop.TheVariants.{Nodes, Memory}
-use Rattle.cb_dd.specs.Diagram.{IsNode, IsChild, function_of, level_of}
+use Rattle.cb_dd.specs.Diagram.{Store, IsNode, IsChild, function_of, level_of}
 use Rattle.cb_ops.specs.Ops.{IsCofactor, StandsFor}
 use Rattle.cb_ops.specs.declared.calls.Choice.{Choice}
 use Rattle.cb_ops.specs.declared.calls.Operation.{Operation}
@@ -51,11 +51,6 @@ abbrev pub bit_of : Left → Bool
 bit_of (left.High d) = false
 bit_of (left.Low r) = true
 
--- the nodes that are made when the answer comes
-abbrev pub made_of : Left → ℕ
-made_of (left.High d) = 0
-made_of (left.Low r) = 1
-
 -- the call with the bit 1, or the answer with the bit 0
 abbrev pub HasLeft : List Triple → ℕ → Choice → Left → Type 0
 HasLeft ts level c (left.High d) = IsPart ts level true c d
@@ -73,15 +68,40 @@ pub record IsAnswered (ts : List Triple) (c : Choice) (r : ℕ) : Type 0 where
   pub node : IsNode ts r
   pub value : (a : Bits) → function_of ts r a ≡ value_of ts c a
 
--- a call was answered at once, or stands last in the list, and its cofactor is asked
-abbrev pub Asked : List Triple → List Pending → List Pending → Choice → Turn → Type 0
-Asked ts old new c (turn.Answer r) = (new ≡ old) × IsAnswered ts c r.0
-Asked ts old new c (turn.Ask d) = (x : Pending) × ((new ≡ old ++ x ∷ []) × (x.call ≡ c) × (bit_of x.left ≡ false) × Waits ts x × IsPart ts x.level false c d)
+-- the call isn't plain: it depends on a level
+abbrev pub IsOpen : Choice → Type 0
+IsOpen c = (2 ≤ c.f.0) ⊎ (2 ≤ c.g.0)
 
--- the other cofactor of the call is asked, and it stands last in the list; or it is answered
-abbrev pub Resumed : List Triple → List Pending → List Pending → Pending → Turn → Type 0
-Resumed ts old new top (turn.Answer r) = (new ≡ old) × (bit_of top.left ≡ true) × IsAnswered ts top.call r.0
-Resumed ts old new top (turn.Ask d) = (bit_of top.left ≡ false) × ((x : Pending) × ((new ≡ old ++ x ∷ []) × (x.call ≡ top.call) × (x.level ≡ top.level) × (bit_of x.left ≡ true) × Waits ts x × IsPart ts x.level true top.call d))
+-- the call was put last on the list, where it waits for its cofactor with the bit, which isn't plain
+pub record IsPut (ts : List Triple) (old new : List Pending) (c : Choice) (bit : Bool) (d : Choice) : Type 0 where
+  pub x : Pending
+  pub items : new ≡ old ++ x ∷ []
+  pub call : x.call ≡ c
+  pub side : bit_of x.left ≡ bit
+  pub waits : Waits ts x
+  pub part : IsPart ts x.level bit c d
+  pub opens : IsOpen d
+
+-- the call was answered with at most one more node, and the list stayed
+pub record IsClosed (old new : Store) (before after : List Pending) (c : Choice) (r : ℕ) : Type 0 where
+  pub items : after ≡ before
+  pub one : length new.triples ≤ length old.triples + 1
+  pub answer : IsAnswered new.triples c r
+
+-- the call waits for its cofactor with the bit 1, or it was answered
+abbrev pub AskedHigh : Store → Store → List Pending → List Pending → Choice → Turn → Type 0
+AskedHigh old new before after c (turn.Answer r) = IsClosed old new before after c r.0
+AskedHigh old new before after c (turn.Ask d) = (new ≡ old) × IsPut new.triples before after c true d
+
+-- the call waits for one of its cofactors, or it was answered
+abbrev pub Asked : Store → Store → List Pending → List Pending → Choice → Turn → Type 0
+Asked old new before after c (turn.Answer r) = IsClosed old new before after c r.0
+Asked old new before after c (turn.Ask d) = (new ≡ old) × ((bit : Bool) × IsPut new.triples before after c bit d)
+
+-- the waiting call had the answer with the bit 0, and waits for the other one; or it was answered
+abbrev pub Resumed : Store → Store → List Pending → List Pending → Pending → Turn → Type 0
+Resumed old new before after top (turn.Answer r) = IsClosed old new before after top.call r.0
+Resumed old new before after top (turn.Ask d) = (new ≡ old) × (bit_of top.left ≡ false) × IsPut new.triples before after top.call true d
 
 -- the number of refusals for nodes after a turn
 abbrev pub fulls_after_turn : ℕ → Result Turn Stop → ℕ

@@ -1,14 +1,17 @@
 // `ite` and `xor`, with a list of the calls that wait for the answers of their cofactors; the connectives by them.
-ghost use Rattle.std.specs.Prelude.{◌≡◌, ◌≢◌, ◌⊎◌, not, ◌&&◌, ◌||◌, ◌+◌, ◌-◌, ◌<◌, ◌≤◌, ◌^◌, [], ◌∷◌, length, min, Err, IfOk, IfSome, IfNone, true, false};
+ghost use Rattle.std.specs.Prelude.{◌≡◌, ◌≢◌, ◌⊎◌, not, ◌&&◌, ◌||◌, ◌+◌, ◌-◌, ◌<◌, ◌≤◌, ◌^◌, [], ◌∷◌, length, min, Err, OnErr, IfOk, IfSome, IfNone, true, false};
 ghost use Rattle.cb_model.specs.Bits.{xor};
 ghost use Rattle.cb_dd.specs.Diagram.{IsDiagram, IsNode, function_of, level_of, fulls_after};
 ghost use Rattle.cb_ops.specs.Ops.{Grows, StandsFor, IsIte, IsXor, IsCofactor, Room, HasCause};
 ghost use Rattle.cb_ops.specs.Makes.{Makes};
-ghost use Rattle.cb_ops.specs.Waiting.{AreCalled, Asked, Resumed, Waits, IsHalf, IsAnswered, IsValue, bit_of, made_of, fulls_after_turn};
+ghost use Rattle.cb_ops.specs.Waiting.{AreCalled, Asked, AskedHigh, Resumed, Waits, IsHalf, IsAnswered, IsOpen, IsPart, IsValue, bit_of, fulls_after_turn};
 
 use crate::Ops;
 use crate::memos::{else_side, then_side};
 use cb_dd::{Node, Stop};
+
+// For how many waiting calls a list has room at first.
+const FIRST_PENDING: usize = 64;
 
 // What a call asks for.
 #[derive(Clone, Copy)]
@@ -85,7 +88,12 @@ impl Ops {
         ensures diagram { IsDiagram self.new.triples }
     {
         let _count = self.count();
-        let mut pending = Vec::new(*self.memo.allocator());
+        if let Some(r) = self.known(call) {
+            return Ok(r);
+        }
+        let Ok(mut pending) = Vec::with_capacity(*self.memo.allocator(), FIRST_PENDING) else {
+            return Err(Stop::Memory);
+        };
         let mut turn = Turn::Ask(call);
         loop {
             match turn {
@@ -102,27 +110,24 @@ impl Ops {
         }
     }
 
-    // Answers a call, or puts it on the list and asks for its cofactor with the bit 0.
-    fn ask(&self, pending: &mut Vec<Pending>, call: Choice) -> Result<Turn, Stop>
-        requires call { AreCalled self.now.triples call }
-        ensures asked { IfOk result (Asked self.now.triples pending.old.items pending.new.items call) }
-        ensures memory { result ≢ Err Stop.Nodes }
+    // Goes on with a call that isn't known: to its cofactor with the bit 0, or, where that is known, to the other one.
+    fn ask(&mut self, pending: &mut Vec<Pending>, call: Choice) -> Result<Turn, Stop>
+        requires call { AreCalled self.old.triples call }
+        requires open { IsOpen call }
+        ensures asked { IfOk result (Asked self.old self.new pending.old.items pending.new.items call) }
+        ensures grows { Grows self.old self.new }
+        ensures refused { OnErr result (self.new.triples ≡ self.old.triples) }
+        ensures full { result ≡ Err Stop.Nodes → length self.new.triples ≡ self.new.budget }
+        ensures unbounded { self.old.budget ≡ 2 ^ 64 - 1 → result ≢ Err Stop.Nodes }
+        ensures fulls { self.new.fulls ≡ fulls_after_turn self.old.fulls result }
+        ensures diagram { IsDiagram self.new.triples }
     {
         let _count = self.count();
-        if let Some(r) = self.known(call) {
-            return Ok(Turn::Answer(r));
-        }
         let level = self.least_level(call);
-        let Choice { operation, f, g, h } = call;
-        let (f0, f1) = self.cofactors(f, level);
-        let (g0, g1) = self.cofactors(g, level);
-        let (h0, h1) = self.cofactors(h, level);
-        let high = Choice {
-            operation,
-            f: f1,
-            g: g1,
-            h: h1,
-        };
+        let (low, high) = self.sides(call, level);
+        if let Some(lo) = self.known(low) {
+            return self.ask_high(pending, call, level as u32, lo, high);
+        }
         let waiting = Pending {
             call,
             level: level as u32,
@@ -131,21 +136,16 @@ impl Ops {
         let Ok(_) = pending.push(waiting) else {
             return Err(Stop::Memory);
         };
-        Ok(Turn::Ask(Choice {
-            operation,
-            f: f0,
-            g: g0,
-            h: h0,
-        }))
+        Ok(Turn::Ask(low))
     }
 
-    // Hands an answer to the call that waits for it: it asks for its other cofactor, or has its own answer.
+    // Hands an answer to the call that waits for it: it goes on to its other cofactor, or has its own answer.
     fn resume(&mut self, pending: &mut Vec<Pending>, top: Pending, r: Node) -> Result<Turn, Stop>
         requires waits { Waits self.old.triples top }
         requires half { IsHalf self.old.triples top.level (bit_of top.left) top.call r.0 }
-        ensures resumed { IfOk result (Resumed self.new.triples pending.old.items pending.new.items top) }
+        ensures resumed { IfOk result (Resumed self.old self.new pending.old.items pending.new.items top) }
         ensures grows { Grows self.old self.new }
-        ensures one { length self.new.triples ≤ length self.old.triples + made_of top.left }
+        ensures refused { OnErr result (self.new.triples ≡ self.old.triples) }
         ensures full { result ≡ Err Stop.Nodes → length self.new.triples ≡ self.new.budget }
         ensures unbounded { self.old.budget ≡ 2 ^ 64 - 1 → result ≢ Err Stop.Nodes }
         ensures fulls { self.new.fulls ≡ fulls_after_turn self.old.fulls result }
@@ -153,22 +153,70 @@ impl Ops {
     {
         let _count = self.count();
         match top.left {
-            Left::High(high) => {
-                let waiting = Pending {
-                    left: Left::Low(r),
-                    ..top
-                };
-                let Ok(_) = pending.push(waiting) else {
-                    return Err(Stop::Memory);
-                };
-                Ok(Turn::Ask(high))
-            }
+            Left::High(high) => self.ask_high(pending, top.call, top.level, r, high),
             Left::Low(lo) => {
-                let n = self.node(top.level, lo, r)?;
-                self.keep(top.call, n);
+                let n = self.close(top.call, top.level, lo, r)?;
                 Ok(Turn::Answer(n))
             }
         }
+    }
+
+    // Goes on with a call whose cofactor with the bit 0 is answered: to the other one, or to its own answer where that
+    // is known too.
+    #[inline(always)]
+    fn ask_high(
+        &mut self,
+        pending: &mut Vec<Pending>,
+        call: Choice,
+        level: u32,
+        lo: Node,
+        high: Choice,
+    ) -> Result<Turn, Stop>
+        requires waits { Waits self.old.triples (record { call = call; level = level; left = Left.Low lo }) }
+        requires high { IsPart self.old.triples level true call high }
+        ensures asked { IfOk result (AskedHigh self.old self.new pending.old.items pending.new.items call) }
+        ensures grows { Grows self.old self.new }
+        ensures refused { OnErr result (self.new.triples ≡ self.old.triples) }
+        ensures full { result ≡ Err Stop.Nodes → length self.new.triples ≡ self.new.budget }
+        ensures unbounded { self.old.budget ≡ 2 ^ 64 - 1 → result ≢ Err Stop.Nodes }
+        ensures fulls { self.new.fulls ≡ fulls_after_turn self.old.fulls result }
+        ensures diagram { IsDiagram self.new.triples }
+    {
+        let _count = self.count();
+        if let Some(hi) = self.known(high) {
+            let n = self.close(call, level, lo, hi)?;
+            return Ok(Turn::Answer(n));
+        }
+        let waiting = Pending {
+            call,
+            level,
+            left: Left::Low(lo),
+        };
+        let Ok(_) = pending.push(waiting) else {
+            return Err(Stop::Memory);
+        };
+        Ok(Turn::Ask(high))
+    }
+
+    // The answer of a call, from the answers of its two cofactors.
+    #[inline(always)]
+    fn close(&mut self, call: Choice, level: u32, lo: Node, hi: Node) -> Result<Node, Stop>
+        requires call { AreCalled self.old.triples call }
+        requires lo { IsHalf self.old.triples level false call lo.0 }
+        requires hi { IsHalf self.old.triples level true call hi.0 }
+        ensures answered { IfOk result (λ n. IsAnswered self.new.triples call n.0) }
+        ensures one { length self.new.triples ≤ length self.old.triples + 1 }
+        ensures grows { Grows self.old self.new }
+        ensures refused { OnErr result (self.new.triples ≡ self.old.triples) }
+        ensures full { result ≡ Err Stop.Nodes → length self.new.triples ≡ self.new.budget }
+        ensures unbounded { self.old.budget ≡ 2 ^ 64 - 1 → result ≢ Err Stop.Nodes }
+        ensures fulls { self.new.fulls ≡ fulls_after self.old.fulls result }
+        ensures diagram { IsDiagram self.new.triples }
+    {
+        let _count = self.count();
+        let n = self.node(level, lo, hi)?;
+        self.keep(call, n);
+        Ok(n)
     }
 
     /// The node that is 1 where f is 0.
@@ -246,6 +294,33 @@ impl Ops {
         }
     }
 
+    // The call with the two bits at a level that is at most those of its nodes.
+    fn sides(&self, call: Choice, level: u64) -> (Choice, Choice)
+        requires call { AreCalled self.now.triples call }
+        requires level { level ≤ min (min (level_of self.now.triples call.f.0) (level_of self.now.triples call.g.0)) (level_of self.now.triples call.h.0) }
+        requires small { level < 2 ^ 32 }
+        ensures low { IsPart self.now.triples level false call result.0 }
+        ensures high { IsPart self.now.triples level true call result.1 }
+    {
+        let operation = call.operation;
+        let (f0, f1) = self.cofactors(call.f, level);
+        let (g0, g1) = self.cofactors(call.g, level);
+        let (h0, h1) = self.cofactors(call.h, level);
+        let low = Choice {
+            operation,
+            f: f0,
+            g: g0,
+            h: h0,
+        };
+        let high = Choice {
+            operation,
+            f: f1,
+            g: g1,
+            h: h1,
+        };
+        (low, high)
+    }
+
     // The least level on which the nodes of a call depend.
     fn least_level(&self, call: Choice) -> u64
         requires call { AreCalled self.now.triples call }
@@ -259,6 +334,7 @@ impl Ops {
     }
 
     // The answer of a call that needs no work.
+    #[inline(always)]
     fn known(&self, call: Choice) -> Option<Node>
         requires call { AreCalled self.now.triples call }
         ensures answered { IfSome result (λ r. IsAnswered self.now.triples call r.0) }

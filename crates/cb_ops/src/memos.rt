@@ -15,12 +15,11 @@ use std::hash::{Hash, Hasher};
 use std::mem;
 
 /// How many answers a memo holds at most; in a store of more than eight times as many nodes it holds an eighth as many as
-/// there are nodes. It begins empty and grows as it fills; when it is full a new one begins, and the one before it is
-/// still looked up until the new one has a sixteenth as many answers. So the answers found last are never lost: without
-/// that, an exclusive or of two diagrams of 150,000 levels each comes to no end.
+/// there are nodes. It begins empty and its room grows by four as it fills; when it is full a new one begins, and the one
+/// before it is still looked up until the new one has a sixteenth as many answers. So the answers found last are never
+/// lost: without that, an exclusive or of two diagrams of 150,000 levels each comes to no end.
 ///
-/// The number is a size to which the table grows by doubling; a smaller memo finds less, and a greater one leaves the
-/// cache.
+/// The number is one of the rooms that a memo grows through; a smaller memo finds less, and a greater one leaves the cache.
 const MEMO_ROOM: usize = 36_864;
 
 /// For how many nodes of a large store a memo holds one answer.
@@ -28,6 +27,9 @@ const MEMO_SHARE: usize = 8;
 
 /// What part of the answers before it a memo has when those are no longer looked up.
 const YOUNG: usize = 16;
+
+/// For how many answers a memo has room at first.
+const FIRST_ROOM: usize = 144;
 
 // A call of `ite`, by the numbers of its arguments.
 #[derive(Clone, Copy, PartialEq, Eq, Debug)]
@@ -149,8 +151,11 @@ impl Ops {
         ensures small { result < 2 ^ 63 }
     {
         let count = self.count();
-        if MEMO_ROOM.max(count / MEMO_SHARE) <= self.memo.len() {
+        let len = self.memo.len();
+        if MEMO_ROOM.max(count / MEMO_SHARE) <= len {
             self.renew_memo();
+        } else if len < MEMO_ROOM && len == self.memo.capacity() {
+            self.widen_memo();
         }
         count
     }
@@ -162,10 +167,29 @@ impl Ops {
         ensures small { result < 2 ^ 63 }
     {
         let count = self.count();
-        if MEMO_ROOM.max(count / MEMO_SHARE) <= self.pairs.len() {
+        let len = self.pairs.len();
+        if MEMO_ROOM.max(count / MEMO_SHARE) <= len {
             self.renew_pairs();
+        } else if len < MEMO_ROOM && len == self.pairs.capacity() {
+            self.widen_pairs();
         }
         count
+    }
+
+    // Gives the memo of `ite` four times its room, where there is memory.
+    fn widen_memo(&mut self)
+        ensures same { self.new ≡ self.old }
+    {
+        let len = self.memo.len();
+        let _ = self.memo.reserve(len.saturating_mul(3).max(FIRST_ROOM));
+    }
+
+    // Gives the memo of `xor` four times its room, where there is memory.
+    fn widen_pairs(&mut self)
+        ensures same { self.new ≡ self.old }
+    {
+        let len = self.pairs.len();
+        let _ = self.pairs.reserve(len.saturating_mul(3).max(FIRST_ROOM));
     }
 
     // The answers of `ite` become the old ones.

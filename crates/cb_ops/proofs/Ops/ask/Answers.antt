@@ -1,21 +1,18 @@
-use Rattle.std.proofs.Common.{refl}
+use Rattle.cb_ops.specs.declared.calls.Choice.{Choice}
+use Rattle.cb_ops.specs.declared.calls.Pending.{Pending}
 use Rattle.cb_ops.specs.declared.calls.Left.TheVariants as left
+use Rattle.cb_ops.specs.Waiting.{Waits}
+use Rattle.cb_ops.proofs.Waiting.{part-answered}
 use Rattle.cb_ops.proofs.Ops.ask.Goals as goal
 
-pub returns-clause-asked : goal.returns-clause-asked
-returns-clause-asked c =
-    let call = c.requires.call in (
-      record { call = c.args.call; level = c.least_level-level.result; left = left.High (record { operation = c.args.call.operation; f = c.cofactors.result.1; g = c.cofactors-2.result.1; h = c.cofactors-3.result.1 }) },
-      (
-        c.in-Ok.ensures.items,
-        refl,
-        refl,
-        record {
-          call = record { f = call.f; g = call.g; h = call.h };
-          small = c.least_level-level.ensures.small;
-          least = c.least_level-level.ensures.least;
-          left = record { operation = refl; f = c.cofactors.ensures.hi; g = c.cofactors-2.ensures.hi; h = c.cofactors-3.ensures.hi };
-        },
-        record { operation = refl; f = c.cofactors.ensures.lo; g = c.cofactors-2.ensures.lo; h = c.cofactors-3.ensures.lo },
-      ),
-    )
+pub ask_high-requires-clause-waits : goal.ask_high-requires-clause-waits
+ask_high-requires-clause-waits c =
+    let high : Choice = c.sides.result.1 in
+    let x : Pending = record { call = c.args.call; level = c.least_level-level.result; left = left.High high } in
+    let w : Waits c.args.self.now.triples x = record { call = c.requires.call; small = c.least_level-level.ensures.small; least = c.least_level-level.ensures.least; left = c.sides.ensures.high } in
+    record {
+      call = c.requires.call;
+      small = c.least_level-level.ensures.small;
+      least = c.least_level-level.ensures.least;
+      left = part-answered c.args.self.now.triples c.count-count.ensures.diagram x c.sides.result.0 c.in-Some.lo.0 w c.sides.ensures.low c.in-Some.ensures.answered;
+    }
