@@ -118,7 +118,7 @@ leads-value : (w : Bits) (g : Reading) (cs : List Stored) → CellsHold w cs g �
 leads-value w g cs h r e arrives = refl
 leads-value w g cs h r e (goes c to is l k) = link-value w g r c to l (h r c is) ∙ leads-value w g cs h to.0 e k
 
-leads-finite : (cs : List Stored) (r e : ℕ) → LeadsTo cs r e → IsFinite cs e → IsFinite cs r
+pub leads-finite : (cs : List Stored) (r e : ℕ) → LeadsTo cs r e → IsFinite cs e → IsFinite cs r
 leads-finite cs r e arrives f = f
 leads-finite cs r e (goes c to is l k) f = link-finite cs r c to is l (leads-finite cs to.0 e k f)
 

@@ -1,5 +1,5 @@
 -- The search for a cell below a cell.
-use Rattle.std.proofs.Common.{◌≡◌, ◌≢◌, ◌⊎◌, inl, inr, ℕ, zero, suc, ◌+◌, ◌<◌, ◌≤◌, ◌^◌, ◌↔◌, Bool, true, cond, List, [], ◌∷◌, ◌++◌, length, nat_eq, Some, None, refl, sym, ap, subst, ◌∙◌, arith, length-append, append-nil, append_assoc, if◌then◌else◌}
+use Rattle.std.proofs.Common.{◌≡◌, ◌⊎◌, inl, inr, ℕ, zero, suc, ◌+◌, ◌<◌, ◌≤◌, ◌^◌, ◌↔◌, Bool, true, cond, List, [], ◌∷◌, ◌++◌, length, nat_eq, Some, None, refl, sym, ap, subst, ◌∙◌, arith, length-append, append-nil, append_assoc, if◌then◌else◌}
 use Rattle.std.specs.Prelude.{slice_get, get_or}
 use Rattle.std.specs.List.{list_any, Contains, IsDistinct}
 use Rattle.std.proofs.lemmas.Bool.{cases_Bool, cases_lt, eqb-true, eq-eqb, true≢false}
@@ -87,17 +87,17 @@ meets-as a b old new f p = record {
 
 -- ---- the loop
 
--- all that were met are below the first cell, and of the first ones that were met no one is the cell that is looked for
-pub record Searching (cs : List Stored) (from to : ℕ) (met : List ℕ) (done : ℕ) : Type 0 where
+-- all that were met are below the first cell, and the first ones that were met are as they should be
+pub record Searching (cs : List Stored) (from : ℕ) (good : ℕ → Type 0) (met : List ℕ) (done : ℕ) : Type 0 where
   pub unique : IsDistinct nat_eq met
   pub root : IsMet met from
   pub below : (q : ℕ) → IsMet met q → IsBelow cs from q
   pub there : (q : ℕ) → IsMet met q → q < length cs
-  pub closed : (k n : ℕ) → k < done → slice_get met k ≡ Some n → (n ≢ to) × ((q : ℕ) → IsChild cs n q → IsMet met q)
+  pub closed : (k n : ℕ) → k < done → slice_get met k ≡ Some n → good n × ((q : ℕ) → IsChild cs n q → IsMet met q)
   pub within : done ≤ length met
 
-pub searching-start : (cs : List Stored) (from to : ℕ) (old met : List ℕ) → from < length cs → old ≡ [] → Meets (λ j. j ≡ from) old met → Searching cs from to met 0
-searching-start cs from to old met less none m = record {
+pub searching-start : (cs : List Stored) (from : ℕ) (good : ℕ → Type 0) (old met : List ℕ) → from < length cs → old ≡ [] → Meets (λ j. j ≡ from) old met → Searching cs from good met 0
+searching-start cs from good old met less none m = record {
   unique = m.unique;
   root = m.all from refl;
   below = λ q h. subst (λ x. IsBelow cs from x) (sym (only q h)) here;
@@ -109,51 +109,60 @@ searching-start cs from to old met less none m = record {
     only : (q : ℕ) → IsMet met q → q ≡ from
     only q h = elim (m.only q h) [ inl o ↦ absurd (true≢false (sym (sym (ap (list_any (nat_eq q)) none) ∙ o))) | inr e ↦ e ]
 
-pub searching-bound : (cs : List Stored) (from to : ℕ) (met : List ℕ) (done : ℕ) → Searching cs from to met done → length met ≤ length cs
-searching-bound cs from to met done s = length-le_from_distinct_below met (length cs) s.unique (λ q h. s.there q h)
+pub searching-bound : (cs : List Stored) (from : ℕ) (good : ℕ → Type 0) (met : List ℕ) (done : ℕ) → Searching cs from good met done → length met ≤ length cs
+searching-bound cs from good met done s = length-le_from_distinct_below met (length cs) s.unique (λ q h. s.there q h)
 
-pub searching-at : (cs : List Stored) (from to : ℕ) (met : List ℕ) (done n : ℕ) → Searching cs from to met done → slice_get met done ≡ Some n → IsBelow cs from n × (n < length cs)
-searching-at cs from to met done n s at = (s.below n (met-at met done n at), s.there n (met-at met done n at))
+pub searching-at : (cs : List Stored) (from : ℕ) (good : ℕ → Type 0) (met : List ℕ) (done n : ℕ) → Searching cs from good met done → slice_get met done ≡ Some n → IsBelow cs from n × (n < length cs)
+searching-at cs from good met done n s at = (s.below n (met-at met done n at), s.there n (met-at met done n at))
 
 below-one : (cs : List Stored) (r j k : ℕ) → IsBelow cs r j → IsChild cs j k → IsBelow cs r k
 below-one cs r j k here c = down c here
 below-one cs r j k (down d b) c = down d (below-one cs _ j k b c)
 
-module _ (cs : List Stored) (linked : IsLinked cs) (from to : ℕ) (met new : List ℕ) (done n : ℕ) (c : Stored) (s : Searching cs from to met done) (at : slice_get met done ≡ Some n)
-    (is : slice_get cs n ≡ Some c) (other : n ≢ to) (m : Meets (Names n c) met new) where
+-- the cells that a cell names are those that what stands there names
+pub child-names : (cs : List Stored) (n : ℕ) (c : Stored) → slice_get cs n ≡ Some c → (j : ℕ) → Names n c j ↔ IsChild cs n j
+child-names cs n c is j = ((λ x. (c, is, x)), (λ child. subst (λ d. Names n d j) (some-inj child.0 c (sym child.1 ∙ is)) child.2))
+
+module _ (cs : List Stored) (linked : IsLinked cs) (from : ℕ) (good : ℕ → Type 0) (met new : List ℕ) (done n : ℕ) (s : Searching cs from good met done) (at : slice_get met done ≡ Some n)
+    (is_good : good n) (m : Meets (λ j. IsChild cs n j) met new) where
   before : (q : ℕ) → IsMet met q → IsMet new q
   before q h = met-stays met m.more new q m.behind h
 
-  pub searching-step : Searching cs from to new (done + 1)
+  pub searching-step : Searching cs from good new (done + 1)
   searching-step = record {
     unique = m.unique;
     root = before from s.root;
-    below = λ q h. elim (m.only q h) [ inl o ↦ s.below q o | inr x ↦ below-one cs from n q (s.below n (met-at met done n at)) (c, is, x) ];
-    there = λ q h. elim (m.only q h) [ inl o ↦ s.there q o | inr x ↦ linked.within n q (c, is, x) ];
+    below = λ q h. elim (m.only q h) [ inl o ↦ s.below q o | inr x ↦ below-one cs from n q (s.below n (met-at met done n at)) x ];
+    there = λ q h. elim (m.only q h) [ inl o ↦ s.there q o | inr x ↦ linked.within n q x ];
     closed = λ k i lt there. elim (cases_lt k done) [
       | inl less ↦
           let p = s.closed k i less (sym (get-front met m.more k (let w = slice_get_within met done n at in omega (arith, w, less))) ∙ sym (ap (λ xs. slice_get xs k) m.behind) ∙ there) in
           (p.0, λ q child. before q (p.1 q child))
       | inr more ↦
           let e : k ≡ done = omega (arith, lt, more) in
-          let same : n ≡ i = some-inj n i (sym at ∙ sym (get-front met m.more done (slice_get_within met done n at)) ∙ sym (ap (λ xs. slice_get xs done) m.behind) ∙ ap (slice_get new) (sym e) ∙ there) in (
-            λ x. other (same ∙ x),
-            λ q child.
-                let d : c ≡ child.0 = some-inj c child.0 (sym is ∙ ap (slice_get cs) same ∙ child.1) in
-                m.all q (subst (λ x. Names n x q) (sym d) (subst (λ x. Names x child.0 q) (sym same) child.2)),
-          )
+          let same : n ≡ i = some-inj n i (sym at ∙ sym (get-front met m.more done (slice_get_within met done n at)) ∙ sym (ap (λ xs. slice_get xs done) m.behind) ∙ ap (slice_get new) (sym e) ∙ there) in
+          (subst (λ x. good x) same is_good, λ q child. m.all q (subst (λ x. IsChild cs x q) (sym same) child))
     ];
     within = let w = slice_get_within met done n at in let e = ap length m.behind in omega (arith, w, e, length-append met m.more);
   }
 
--- where all was looked at, the cell isn't below the first
-pub searched : (cs : List Stored) (from to : ℕ) (met : List ℕ) (done : ℕ) → Searching cs from to met done → length met ≤ done → IsBelow cs from to → ⊥
-searched cs from to met done s all b = none from b s.root
+-- where all was looked at, each cell below the first is as it should be
+pub searched : (cs : List Stored) (from to : ℕ) (good : ℕ → Type 0) (met : List ℕ) (done : ℕ) → Searching cs from good met done → length met ≤ done → IsBelow cs from to → good to
+searched cs from to good met done s all b = find from b s.root
   where
-    none : (n : ℕ) → IsBelow cs n to → IsMet met n → ⊥
-    none n here h = let p = met-place met n h in (s.closed p.0 n (let w = slice_get_within met p.0 n p.1 in omega (arith, w, all)) p.1).0 refl
-    none n (down child b) h = let p = met-place met n h in none _ b ((s.closed p.0 n (let w = slice_get_within met p.0 n p.1 in omega (arith, w, all)) p.1).1 _ child)
+    find : (n : ℕ) → IsBelow cs n to → IsMet met n → good to
+    find n here h = let p = met-place met n h in (s.closed p.0 n (let w = slice_get_within met p.0 n p.1 in omega (arith, w, all)) p.1).0
+    find n (down child b) h = let p = met-place met n h in find _ b ((s.closed p.0 n (let w = slice_get_within met p.0 n p.1 in omega (arith, w, all)) p.1).1 _ child)
 
 pub behind-small : (at k : ℕ) → ((j : ℕ) → (at < j) × (j ≤ at + k) → j < 2 ^ 64) → at < 2 ^ 64 → at + k < 2 ^ 64
 behind-small at zero f h = omega arith
 behind-small at (suc k) f h = f (at + suc k) (omega arith, omega arith)
+
+-- ---- the cells that a cell names
+
+module _ (cs : List Stored) (linked : IsLinked cs) (r : ℕ) (c : Stored) (is : slice_get cs r ≡ Some c) where
+  pub named-small : length cs < 2 ^ 63 → (j : ℕ) → Names r c j → j < 2 ^ 64
+  named-small small j n = let w = linked.within r j (c, is, n) in omega (arith, w, small)
+
+  pub meets-children : (old new : List ℕ) → Meets (Names r c) old new → Meets (λ j. IsChild cs r j) old new
+  meets-children old new m = meets-as (Names r c) (λ j. IsChild cs r j) old new (child-names cs r c is) m

@@ -36,7 +36,7 @@ pub(crate) fn is_below(
 }
 
 // Adds the cells that a cell names behind those that were met before.
-fn meet(cell: Stored, at: usize, met: &mut IndexSet<usize>) -> Result<(), AllocError>
+pub(crate) fn meet(cell: Stored, at: usize, met: &mut IndexSet<usize>) -> Result<(), AllocError>
     requires unique { IsDistinct nat_eq met.old.keys }
     requires small { (j : ℕ) → Names at cell j → j < 2 ^ 64 }
     ensures meets { OnOk result (Meets (Names at cell) met.old.keys met.new.keys) }

@@ -2,12 +2,13 @@
 //! stood there is kept to be taken back (the trail of Warren's abstract machine, 1983).
 #![tactic(auto)]
 
-ghost use Rattle.std.specs.Prelude.{◌≡◌, ℕ, ◌+◌, ◌<◌, ◌≤◌, ◌^◌, ◌↔◌, [], ◌∷◌, ◌++◌, length, map, take, drop, true, false, slice_get, slice_set, Some, IfOk, OnOk, OnErr, IsTrue, Contains};
+ghost use Rattle.std.specs.Prelude.{◌≡◌, ℕ, ◌+◌, ◌<◌, ◌≤◌, ◌^◌, ◌↔◌, [], ◌∷◌, ◌++◌, length, map, take, drop, true, false, slice_get, slice_set, nat_eq, Some, IfOk, OnOk, OnErr, IsTrue, Contains};
 ghost use Rattle.std.specs.Option.{option_map};
 ghost use Rattle.cb_model.specs.Bits.{Each};
 ghost use Rattle.cb_heap.specs.Reading.{IsUnbound};
-ghost use Rattle.cb_heap.specs.Finite.{AllFinite, Names};
-ghost use Rattle.cb_heap.specs.Below.{IsBelow};
+ghost use Rattle.std.specs.List.{IsDistinct};
+ghost use Rattle.cb_heap.specs.Finite.{AllFinite, IsChild, Names};
+ghost use Rattle.cb_heap.specs.Below.{IsBelow, Meets};
 ghost use Rattle.cb_heap.specs.Links.{IsLast, IsLinked, link_of};
 ghost use Rattle.cb_heap.specs.Heap.{Terms, IsAddable, IsBound, IsHeap, IsUnboundAt, no_terms, shown_as, sort_of, stored_as, with_cell, with_node, with_rewritten};
 ghost use Rattle.cb_heap.specs.Moments.{Moment, IsMoment, KeepsMoments, moment_of, reverted, rewritten_since, stored_since, undone};
@@ -16,9 +17,10 @@ ghost use Rattle.cb_heap.specs.Laws.{BelowSame, DifferSomewhere, HasReading, One
 mod below;
 mod made;
 
-use below::is_below;
+use below::{is_below, meet};
 use cb_model::Sort;
 use cb_trail::Trail;
+use indexmap::IndexSet;
 use made::{push_node, sort, stored};
 use std::alloc::{AllocError, Global};
 use std::marker::Model;
@@ -229,6 +231,27 @@ impl Heap {
             rewrite(&mut self.cells, &mut self.trail, var.0, Stored::Bound(end))?;
         }
         Ok(())
+    }
+
+    /// Adds the cells that the cell names behind those that were met before, each once. A search that starts with one
+    /// cell and looks at what was met in turn meets all cells below it, each once.
+    pub fn meet(&self, r: Ref, met: &mut IndexSet<usize>) -> Result<(), AllocError>
+        requires heap { IsHeap self.now }
+        requires there { r.0 < length self.now.cells }
+        requires unique { IsDistinct nat_eq met.old.keys }
+        ensures meets { OnOk result (Meets (λ j. IsChild self.now.cells r.0 j) met.old.keys met.new.keys) }
+    {
+        let _count = self.len();
+        meet(self.stored(r), r.0, met)?;
+        Ok(())
+    }
+
+    /// Where the cell leads, if it is a variable that was bound, an argument, or a value that became another cell's.
+    pub fn link(&self, r: Ref) -> Option<Ref>
+        requires { r.0 < length self.now.cells }
+        ensures { (c : Stored) → slice_get self.now.cells r.0 ≡ Some c → result ≡ link_of c }
+    {
+        link(self.cells[r.0])
     }
 
     /// What is stored in the cell.

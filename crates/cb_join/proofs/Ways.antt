@@ -120,7 +120,7 @@ each-join : {A : Type 0} (P : A → Type 0) (xs ys : List A) → Each P xs → E
 each-join P [] ys a b = b
 each-join P (x ∷ xs) ys a b = (a.0, each-join P xs ys a.1 b)
 
-each-map : {A : Type 0} (P Q : A → Type 0) (xs : List A) → ((x : A) → P x → Q x) → Each P xs → Each Q xs
+pub each-map : {A : Type 0} (P Q : A → Type 0) (xs : List A) → ((x : A) → P x → Q x) → Each P xs → Each Q xs
 each-map P Q [] f h = tt
 each-map P Q (x ∷ xs) f h = (f x h.0, each-map P Q xs f h.1)
 
@@ -164,7 +164,7 @@ frames-add cs (h ∷ fs) f = let i = frames-add cs fs f in let e : frame_left cs
 frame-at : (cs : List Stored) (f : Frame) (c : Stored) → slice_get cs f.cell ≡ Some c → frame_left cs f ≡ suc (arity c) - f.next
 frame-at cs f c is = ap (λ o. option_map_or (λ c. suc (arity c) - f.next) o 0) is
 
-left-set : (cs : List Stored) (ms : List Mark) (r : ℕ) (c : Stored) (m n : Mark) → slice_get cs r ≡ Some c → slice_get ms r ≡ Some m → left_at cs (slice_set ms r n) + left_of c m ≡ left_at cs ms + left_of c n
+pub left-set : (cs : List Stored) (ms : List Mark) (r : ℕ) (c : Stored) (m n : Mark) → slice_get cs r ≡ Some c → slice_get ms r ≡ Some m → left_at cs (slice_set ms r n) + left_of c m ≡ left_at cs ms + left_of c n
 left-set [] ms r c m n is at = absurd (no_some _ c refl is)
 left-set (x ∷ cs) [] r c m n is at = absurd (no_some _ m refl at)
 left-set (x ∷ cs) (y ∷ ms) zero c m n is at =
@@ -179,22 +179,22 @@ left-set (x ∷ cs) (y ∷ ms) (suc r) c m n is at =
 
 -- ---- marks
 
-mark-at : (ms : List Mark) (r : ℕ) (n m : Mark) (old : Mark) → slice_get ms r ≡ Some old → slice_get (slice_set ms r n) r ≡ Some m → n ≡ m
+pub mark-at : (ms : List Mark) (r : ℕ) (n m : Mark) (old : Mark) → slice_get ms r ≡ Some old → slice_get (slice_set ms r n) r ≡ Some m → n ≡ m
 mark-at ms r n m old is at = some-inj n m (sym (get-set-same ms r old n is) ∙ at)
 
-no-mark : (m : Mark) → m ≡ mark.Done → m ≡ mark.Open → ⊥
+pub no-mark : (m : Mark) → m ≡ mark.Done → m ≡ mark.Open → ⊥
 no-mark m a b = cc
 
-open-new : (m : Mark) → m ≡ mark.Open → m ≡ mark.New → ⊥
+pub open-new : (m : Mark) → m ≡ mark.Open → m ≡ mark.New → ⊥
 open-new m a b = cc
 
-done-new : (m : Mark) → m ≡ mark.Done → m ≡ mark.New → ⊥
+pub done-new : (m : Mark) → m ≡ mark.Done → m ≡ mark.New → ⊥
 done-new m a b = cc
 
-stays-refl : (ms : List Mark) → StaysMet ms ms
+pub stays-refl : (ms : List Mark) → StaysMet ms ms
 stays-refl ms r m is n = (m, is, n)
 
-stays-set : (ms : List Mark) (r : ℕ) (n old : Mark) → slice_get ms r ≡ Some old → (n ≡ mark.New → ⊥) → StaysMet ms (slice_set ms r n)
+pub stays-set : (ms : List Mark) (r : ℕ) (n old : Mark) → slice_get ms r ≡ Some old → (n ≡ mark.New → ⊥) → StaysMet ms (slice_set ms r n)
 stays-set ms r n old is f q m at h = elim (cases_eq q r) [
   | inl same ↦ (n, subst (λ k. slice_get (slice_set ms r n) k ≡ Some n) (sym same) (get-set-same ms r old n is), f)
   | inr other ↦ (m, get-set-other ms r q n other ∙ at, h)
@@ -266,10 +266,10 @@ module _ (cs : List Stored) (ms : List Mark) (fs : List Frame) (f : Frame) (done
       }
 
   -- the next is done
-  pub exit-next : (to e : ℕ) → child_of f.cell c0 f.next ≡ Some to → IsLast cs to e → IsFinite cs e →
+  pub exit-next : (to : ℕ) → child_of f.cell c0 f.next ≡ Some to → IsFinite cs to →
       (f' : Frame) → f'.cell ≡ f.cell → f'.next ≡ f.next + 1 → (fs' : List Frame) → fs' ≡ fs ++ f' ∷ [] → Goes cs ms fs f ms fs'
   unfolding top both down
-  exit-next to e child last at f' ce ne fs' is = subst (λ (x : List Frame). Goes cs ms fs f ms x) (sym is) (
+  exit-next to child at f' ce ne fs' is = subst (λ (x : List Frame). Goes cs ms fs f ms x) (sym is) (
       let k = child-is f.next (Some to) child in
       let inside = (child-names f.cell top.cell f.next to k).0 in
       let new : FrameHolds cs ms f' = record {
@@ -282,7 +282,7 @@ module _ (cs : List Stored) (ms : List Mark) (fs : List Frame) (f : Frame) (done
             elim (cases_eq i f.next) [
               | inl same ↦
                   let j-is : to ≡ j = some-inj to j (sym k ∙ ap (λ q. child_of f.cell top.cell q) (sym same) ∙ at'') in
-                  subst (IsFinite cs) j-is (last.finite at)
+                  subst (IsFinite cs) j-is at
               | inr other ↦ top.before i j (omega arith) at''
             ];
         next = omega arith;
@@ -460,7 +460,7 @@ root-finite cs ms ms' r e l at stays done none =
     let s = stays e mark.Open (get-set-same ms e mark.New mark.Open at) (λ h. open-new mark.Open refl h) in
     l.finite (done e (done-of cs ms' e s.0 none s.1 s.2))
 
-mark-finite : (cs : List Stored) (ms : List Mark) (e floor : ℕ) → AreFinite cs floor → AreDone cs ms → (e < floor) ⊎ (slice_get ms e ≡ Some mark.Done) → IsFinite cs e
+pub mark-finite : (cs : List Stored) (ms : List Mark) (e floor : ℕ) → AreFinite cs floor → AreDone cs ms → (e < floor) ⊎ (slice_get ms e ≡ Some mark.Done) → IsFinite cs e
 mark-finite cs ms e floor low done (inl less) = low e less
 mark-finite cs ms e floor low done (inr at) = done e at
 
@@ -473,11 +473,11 @@ open-mark ms' ms same e m is h = ap (λ (x : List Mark). slice_get x e) (sym sam
 pub new-mark : (ms' ms : List Mark) → ms' ≡ ms → (e : ℕ) (m : Mark) → m ≡ mark.New → ((m ≡ mark.Done → ⊥) → slice_get ms' e ≡ Some m) → slice_get ms e ≡ Some mark.New
 new-mark ms' ms same e m is h = ap (λ (x : List Mark). slice_get x e) (sym same) ∙ h (λ d. done-new m d is) ∙ ap Some is
 
-pub met-finite : (cs : List Stored) (ms : List Mark) (r e floor : ℕ) (m : Mark) → IsLast cs r e → (m ≡ mark.Done → (e < floor) ⊎ (slice_get ms e ≡ Some mark.Done)) → ((m ≡ mark.Done → ⊥) → slice_get ms e ≡ Some m) →
-    (m ≡ mark.New → ⊥) → AreFinite cs floor → AreDone cs ms → Frames cs ms [] → IsFinite cs r
-met-finite cs ms r e floor mark.New l h o n low done none = absurd (n refl)
-met-finite cs ms r e floor mark.Open l h o n low done none = absurd (none.met e (o (λ x. no-mark mark.Open x refl)))
-met-finite cs ms r e floor mark.Done l h o n low done none = l.finite (mark-finite cs ms e floor low done (h refl))
+pub met-finite : (cs : List Stored) (ms : List Mark) (e floor : ℕ) (m : Mark) → (m ≡ mark.Done → (e < floor) ⊎ (slice_get ms e ≡ Some mark.Done)) → ((m ≡ mark.Done → ⊥) → slice_get ms e ≡ Some m) →
+    (m ≡ mark.New → ⊥) → AreFinite cs floor → AreDone cs ms → Frames cs ms [] → IsFinite cs e
+met-finite cs ms e floor mark.New h o n low done none = absurd (n refl)
+met-finite cs ms e floor mark.Open h o n low done none = absurd (none.met e (o (λ x. no-mark mark.Open x refl)))
+met-finite cs ms e floor mark.Done h o n low done none = mark-finite cs ms e floor low done (h refl)
 
 pub new-done : (cs : List Stored) (ms : List Mark) → AreNew ms → AreDone cs ms
 new-done cs ms n r at = absurd (done-new mark.Done refl (n r mark.Done at))
@@ -543,14 +543,17 @@ noted-met ms met met' at h less e = subst (λ (x : List ℕ). IsNoted ms x) (sym
   within = each-join _ met (at ∷ []) h.within (less, tt);
 })
 
-pub noted-new : (ms : List Mark) (met met' : List ℕ) (at : ℕ) → IsNoted ms met → at < length ms → met' ≡ met ++ at ∷ [] → IsNoted (slice_set ms at mark.Open) met'
-noted-new ms met met' at h less e = subst (λ (x : List ℕ). IsNoted (slice_set ms at mark.Open) x) (sym e) (record {
-  listed = λ r m o n. elim (cases_eq r at) [
+pub noted-as : (m : Mark) (ms : List Mark) (met met' : List ℕ) (at : ℕ) → IsNoted ms met → at < length ms → met' ≡ met ++ at ∷ [] → IsNoted (slice_set ms at m) met'
+noted-as m ms met met' at h less e = subst (λ (x : List ℕ). IsNoted (slice_set ms at m) x) (sym e) (record {
+  listed = λ r n o new. elim (cases_eq r at) [
     | inl same ↦ met-last r met at same
-    | inr other ↦ met-left r met (at ∷ []) (h.listed r m (sym (get-set-other ms at r mark.Open other) ∙ o) n)
+    | inr other ↦ met-left r met (at ∷ []) (h.listed r n (sym (get-set-other ms at r m other) ∙ o) new)
   ];
-  within = within-set ms at mark.Open (met ++ at ∷ []) (each-join _ met (at ∷ []) h.within (less, tt));
+  within = within-set ms at m (met ++ at ∷ []) (each-join _ met (at ∷ []) h.within (less, tt));
 })
+
+pub noted-new : (ms : List Mark) (met met' : List ℕ) (at : ℕ) → IsNoted ms met → at < length ms → met' ≡ met ++ at ∷ [] → IsNoted (slice_set ms at mark.Open) met'
+noted-new = noted-as mark.Open
 
 pub noted-back : (ms : List Mark) (met rest : List ℕ) (at : ℕ) → IsNoted ms met → met ≡ rest ++ at ∷ [] → IsNoted (slice_set ms at mark.New) rest
 noted-back ms met rest at h e =

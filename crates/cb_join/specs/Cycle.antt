@@ -11,7 +11,11 @@ use Rattle.cb_join.specs.declared.cycle.Frame.{Frame}
 use Rattle.cb_heap.specs.Reading.{Reading, CellsHold}
 use Rattle.cb_heap.specs.Finite.{IsFinite, IsChild}
 use Rattle.cb_join.specs.declared.cycle.Work.{Work}
+use Rattle.cb_heap.specs.declared.Ref.{Ref}
 use Rattle.cb_heap.specs.Links.{link_of}
+use Rattle.cb_heap.specs.Heap.{Terms}
+use Rattle.cb_heap.specs.Moments.{Moment, rewritten_since}
+use Rattle.cb_join.specs.Joins.{IsEnd}
 
 -- how many cells a cell names, but for where a link leads
 abbrev pub arity : Stored → ℕ
@@ -96,12 +100,31 @@ abbrev pub frames_left : List Stored → List Frame → ℕ
 frames_left cs [] = 0
 frames_left cs (f ∷ fs) = frame_left cs f + frames_left cs fs
 
--- one step of the search
+-- one step of the search, over marks and ways
 pub record Goes (cs : List Stored) (ms : List Mark) (fs : List Frame) (f : Frame) (ms' : List Mark) (fs' : List Frame) : Type 0 where
   pub frames : Frames cs ms' fs'
   pub done : AreDone cs ms'
   pub stays : StaysMet ms ms'
   pub less : left_at cs ms' + frames_left cs fs' < left_at cs ms + frames_left cs (fs ++ f ∷ [])
+
+-- the cell is a link to this one
+abbrev pub IsLinkTo : List Stored → ℕ → Ref → Type 0
+IsLinkTo cs r to = (c : Stored) × (slice_get cs r ≡ Some c) × (link_of c ≡ Some to)
+
+-- the cell is done, as all below the floor are
+abbrev pub IsDone : List Mark → ℕ → ℕ → Type 0
+IsDone ms floor r = (r < floor) ⊎ (slice_get ms r ≡ Some mark.Done)
+
+-- the cell is done, or no link stands there
+abbrev pub IsDoneOrEnd : List Stored → List Mark → ℕ → ℕ → Type 0
+IsDoneOrEnd cs ms floor r = (r < length cs) × (IsDone ms floor r ⊎ IsEnd cs r)
+
+-- cells that are no part of a way were marked as done
+pub record MoreDone (cs : List Stored) (ms ms' : List Mark) : Type 0 where
+  pub frames : (fs : List Frame) → Frames cs ms fs → Frames cs ms' fs
+  pub done : AreDone cs ms → AreDone cs ms'
+  pub stays : StaysMet ms ms'
+  pub less : left_at cs ms' ≤ left_at cs ms
 
 -- nothing was met
 abbrev pub AreNew : List Mark → Type 0
@@ -130,3 +153,25 @@ AreFinite cs n = (r : ℕ) → r < n → IsFinite cs r
 -- the cells below n name none from n on
 abbrev pub IsClosed : ℕ → List Stored → Type 0
 IsClosed n cs = (r j : ℕ) → r < n → IsChild cs r j → j < n
+
+-- A search with these cells on the way down: each cell has a mark, the cells that aren't new were met, and every way down
+-- from those that are done ends, as from those below the floor.
+pub record IsSearch (cs : List Stored) (floor : ℕ) (w : Work) (fs : List Frame) : Type 0 where
+  pub low : AreFinite cs floor
+  pub number : length cs ≤ length w.marks.items
+  pub noted : IsNoted w.marks.items w.met.items
+  pub done : AreDone cs w.marks.items
+  pub frames : Frames cs w.marks.items fs
+
+-- a search with nothing on the way down
+pub record IsIdle (cs : List Stored) (floor : ℕ) (w : Work) : Type 0 where
+  pub search : IsSearch cs floor w []
+  pub empty : w.way.items ≡ []
+
+-- one step of the search, from this cell
+abbrev pub Steps : List Stored → Work → Frame → Work → Type 0
+Steps cs w f w' = Goes cs w.marks.items w.way.items f w'.marks.items w'.way.items
+
+-- every way down ends from the cells that were rewritten since the moment and have numbers below this one
+abbrev pub RootsEnd : Terms → Moment → ℕ → Type 0
+RootsEnd t m below = (k r : ℕ) → slice_get (rewritten_since m t) k ≡ Some r → r < below → IsFinite t.cells r

@@ -1,10 +1,11 @@
 //! Whether a cell leads back to itself.
 
-ghost use Rattle.std.specs.Prelude.{◌≡◌, ◌⊎◌, ℕ, ◌+◌, ◌<◌, ◌≤◌, ◌^◌, [], ◌∷◌, ◌++◌, length, slice_get, true, false, Some, Ok, OnOk, take};
+ghost use Rattle.std.specs.Prelude.{◌≡◌, ◌⊎◌, ℕ, ◌+◌, ◌<◌, ◌≤◌, ◌^◌, [], ◌∷◌, ◌++◌, length, slice_get, true, false, Some, None, Ok, OnOk, take};
 ghost use Rattle.cb_heap.specs.Finite.{AllFinite, IsFinite};
 ghost use Rattle.cb_heap.specs.Heap.{IsHeap};
+ghost use Rattle.cb_heap.specs.Links.{LeadsTo};
 ghost use Rattle.cb_heap.specs.Moments.{IsMoment, reverted, rewritten_since};
-ghost use Rattle.cb_join.specs.Cycle.{AreDone, AreFinite, AreNew, Frames, Goes, HasNoReading, IsClosed, IsNoted, StaysMet, child_of};
+ghost use Rattle.cb_join.specs.Cycle.{AreNew, HasNoReading, IsClosed, IsDone, IsDoneOrEnd, IsIdle, IsLinkTo, IsNoted, IsSearch, MoreDone, RootsEnd, StaysMet, Steps, child_of};
 ghost use Rattle.cb_join.specs.declared.cycle.Mark.TheVariants as mark;
 
 use cb_heap::{Heap, HeapMark, Ref, Stored};
@@ -70,7 +71,7 @@ impl Search {
 /// added. Cells before `settled` named none behind it then: unless one of them was rewritten, no way from a later cell
 /// into them comes back, so the search doesn't go there.
 ///
-/// It meets each cell once, depth first (Tarjan 1972), with a list in place of recursion.
+/// It meets each cell once, links as well, depth first (Tarjan 1972), with a list in place of recursion.
 pub fn is_finite(
     heap: &Heap,
     search: &mut Search,
@@ -155,19 +156,11 @@ fn roots_end(
 ) -> Result<bool, AllocError>
     requires heap { IsHeap heap.now }
     requires since { IsMoment since heap.now }
-    requires low { AreFinite heap.now.cells floor }
-    requires number { length heap.now.cells ≤ length work.old.marks.items }
-    requires noted { IsNoted work.old.marks.items work.old.met.items }
-    requires done { AreDone heap.now.cells work.old.marks.items }
-    requires none { Frames heap.now.cells work.old.marks.items [] }
-    requires empty { work.old.way.items ≡ [] }
-    ensures ends { result ≡ Ok true → (k r : ℕ) → slice_get (rewritten_since since heap.now) k ≡ Some r → r < below → IsFinite heap.now.cells r }
+    requires idle { IsIdle heap.now.cells floor work.old }
+    ensures ends { result ≡ Ok true → RootsEnd heap.now since below }
     ensures cycle { result ≡ Ok false → HasNoReading heap.now.cells }
-    ensures number { length work.new.marks.items ≡ length work.old.marks.items }
     ensures noted { IsNoted work.new.marks.items work.new.met.items }
-    ensures done { result ≡ Ok true → AreDone heap.now.cells work.new.marks.items }
-    ensures none { result ≡ Ok true → Frames heap.now.cells work.new.marks.items [] }
-    ensures empty { result ≡ Ok true → work.new.way.items ≡ [] }
+    ensures idle { result ≡ Ok true → IsIdle heap.now.cells floor work.new }
 {
     for k in 0..heap.count_bound(since) {
         if !root_ends(heap, floor, work, heap.bound(since, k), below)? {
@@ -187,19 +180,11 @@ fn root_ends(
 ) -> Result<bool, AllocError>
     requires heap { IsHeap heap.now }
     requires there { (r : Ref) → root ≡ Some r → r.0 < length heap.now.cells }
-    requires low { AreFinite heap.now.cells floor }
-    requires number { length heap.now.cells ≤ length work.old.marks.items }
-    requires noted { IsNoted work.old.marks.items work.old.met.items }
-    requires done { AreDone heap.now.cells work.old.marks.items }
-    requires none { Frames heap.now.cells work.old.marks.items [] }
-    requires empty { work.old.way.items ≡ [] }
+    requires idle { IsIdle heap.now.cells floor work.old }
     ensures ends { result ≡ Ok true → (r : Ref) → root ≡ Some r → r.0 < below → IsFinite heap.now.cells r.0 }
     ensures cycle { result ≡ Ok false → HasNoReading heap.now.cells }
-    ensures number { length work.new.marks.items ≡ length work.old.marks.items }
     ensures noted { IsNoted work.new.marks.items work.new.met.items }
-    ensures done { result ≡ Ok true → AreDone heap.now.cells work.new.marks.items }
-    ensures none { result ≡ Ok true → Frames heap.now.cells work.new.marks.items [] }
-    ensures empty { result ≡ Ok true → work.new.way.items ≡ [] }
+    ensures idle { result ≡ Ok true → IsIdle heap.now.cells floor work.new }
 {
     match root {
         Some(r) => {
@@ -213,54 +198,103 @@ fn root_ends(
     }
 }
 
-// Goes down from a cell, where that wasn't done yet.
+// Goes down from a cell, where that wasn't done yet; then the links from it are done as well.
 fn from_root(heap: &Heap, floor: usize, work: &mut Work, root: Ref) -> Result<bool, AllocError>
     requires heap { IsHeap heap.now }
     requires root { root.0 < length heap.now.cells }
-    requires low { AreFinite heap.now.cells floor }
-    requires number { length heap.now.cells ≤ length work.old.marks.items }
-    requires noted { IsNoted work.old.marks.items work.old.met.items }
-    requires done { AreDone heap.now.cells work.old.marks.items }
-    requires none { Frames heap.now.cells work.old.marks.items [] }
-    requires empty { work.old.way.items ≡ [] }
+    requires idle { IsIdle heap.now.cells floor work.old }
     ensures finite { result ≡ Ok true → IsFinite heap.now.cells root.0 }
     ensures cycle { result ≡ Ok false → HasNoReading heap.now.cells }
-    ensures number { length work.new.marks.items ≡ length work.old.marks.items }
     ensures noted { IsNoted work.new.marks.items work.new.met.items }
-    ensures done { result ≡ Ok true → AreDone heap.now.cells work.new.marks.items }
-    ensures none { result ≡ Ok true → Frames heap.now.cells work.new.marks.items [] }
-    ensures empty { result ≡ Ok true → work.new.way.items ≡ [] }
+    ensures idle { result ≡ Ok true → IsIdle heap.now.cells floor work.new }
 {
-    let end = heap.last(root);
-    match mark_of(&work.marks, floor, end.0) {
+    let end = follow(heap, floor, &work.marks, root.0);
+    if !end_ends(heap, floor, work, end)? {
+        return Ok(false);
+    }
+    mark_links(heap, floor, work, root.0)?;
+    Ok(true)
+}
+
+// Goes down from a cell where no link stands, unless it is done.
+fn end_ends(heap: &Heap, floor: usize, work: &mut Work, end: usize) -> Result<bool, AllocError>
+    requires heap { IsHeap heap.now }
+    requires end { IsDoneOrEnd heap.now.cells work.old.marks.items floor end }
+    requires idle { IsIdle heap.now.cells floor work.old }
+    ensures finite { result ≡ Ok true → IsFinite heap.now.cells end }
+    ensures cycle { result ≡ Ok false → HasNoReading heap.now.cells }
+    ensures noted { IsNoted work.new.marks.items work.new.met.items }
+    ensures idle { result ≡ Ok true → IsIdle heap.now.cells floor work.new }
+{
+    let _count = heap.len();
+    match mark_of(&work.marks, floor, end) {
         Mark::New => {
-            work.met.push(end.0)?;
-            work.marks[end.0] = Mark::Open;
-            work.way.push(Frame {
-                cell: end.0,
-                next: 0,
-            })?;
+            work.met.push(end)?;
+            work.marks[end] = Mark::Open;
+            work.way.push(Frame { cell: end, next: 0 })?;
             descend(heap, floor, work)
         }
         _ => Ok(true),
     }
 }
 
+// The cell past the links from a cell, or the first on the way there that is done.
+fn follow(heap: &Heap, floor: usize, marks: &[Mark], from: usize) -> usize
+    requires heap { IsHeap heap.now }
+    requires from { from < length heap.now.cells }
+    requires number { length heap.now.cells ≤ length marks.now }
+    ensures leads { LeadsTo heap.now.cells from result }
+    ensures stops { IsDoneOrEnd heap.now.cells marks.now floor result }
+{
+    let mut at = from;
+    'links: while let Some(to) = open_link(heap, floor, marks, at) {
+        at = to.0;
+    }
+    at
+}
+
+// Marks the links from a cell as done, up to the first that is; every way down from the cell ends.
+fn mark_links(heap: &Heap, floor: usize, work: &mut Work, from: usize) -> Result<(), AllocError>
+    requires heap { IsHeap heap.now }
+    requires from { from < length heap.now.cells }
+    requires finite { IsFinite heap.now.cells from }
+    requires number { length heap.now.cells ≤ length work.old.marks.items }
+    requires noted { IsNoted work.old.marks.items work.old.met.items }
+    ensures done { OnOk result (MoreDone heap.now.cells work.old.marks.items work.new.marks.items) }
+    ensures number { length work.new.marks.items ≡ length work.old.marks.items }
+    ensures noted { IsNoted work.new.marks.items work.new.met.items }
+    ensures way { work.new.way.items ≡ work.old.way.items }
+{
+    let mut at = from;
+    'links: while let Some(to) = open_link(heap, floor, &work.marks, at) {
+        work.met.push(at)?;
+        work.marks[at] = Mark::Done;
+        at = to.0;
+    }
+    Ok(())
+}
+
+// Where a cell leads, if it is a link that isn't done.
+fn open_link(heap: &Heap, floor: usize, marks: &[Mark], at: usize) -> Option<Ref>
+    requires there { at < length heap.now.cells }
+    requires number { length heap.now.cells ≤ length marks.now }
+    ensures link { (to : Ref) → result ≡ Some to → IsLinkTo heap.now.cells at to }
+    ensures stops { result ≡ None → IsDoneOrEnd heap.now.cells marks.now floor at }
+{
+    match mark_of(marks, floor, at) {
+        Mark::Done => None,
+        _ => heap.link(Ref(at)),
+    }
+}
+
 // Goes down until all is done, or until a cell leads back to itself.
 fn descend(heap: &Heap, floor: usize, work: &mut Work) -> Result<bool, AllocError>
     requires heap { IsHeap heap.now }
-    requires low { AreFinite heap.now.cells floor }
-    requires number { length heap.now.cells ≤ length work.old.marks.items }
-    requires noted { IsNoted work.old.marks.items work.old.met.items }
-    requires done { AreDone heap.now.cells work.old.marks.items }
-    requires way { Frames heap.now.cells work.old.marks.items work.old.way.items }
+    requires search { IsSearch heap.now.cells floor work.old work.old.way.items }
     ensures stays { result ≡ Ok true → StaysMet work.old.marks.items work.new.marks.items }
     ensures cycle { result ≡ Ok false → HasNoReading heap.now.cells }
-    ensures number { length work.new.marks.items ≡ length work.old.marks.items }
     ensures noted { IsNoted work.new.marks.items work.new.met.items }
-    ensures done { result ≡ Ok true → AreDone heap.now.cells work.new.marks.items }
-    ensures none { result ≡ Ok true → Frames heap.now.cells work.new.marks.items [] }
-    ensures empty { result ≡ Ok true → work.new.way.items ≡ [] }
+    ensures idle { result ≡ Ok true → IsIdle heap.now.cells floor work.new }
 {
     let _count = heap.len();
     'way: while let Some(frame) = work.way.pop() {
@@ -275,14 +309,10 @@ fn descend(heap: &Heap, floor: usize, work: &mut Work) -> Result<bool, AllocErro
 // one is met for the first time, or leads back.
 fn go_on(heap: &Heap, floor: usize, work: &mut Work, frame: Frame) -> Result<bool, AllocError>
     requires heap { IsHeap heap.now }
-    requires low { AreFinite heap.now.cells floor }
-    requires number { length heap.now.cells ≤ length work.old.marks.items }
-    requires noted { IsNoted work.old.marks.items work.old.met.items }
-    requires done { AreDone heap.now.cells work.old.marks.items }
-    requires way { Frames heap.now.cells work.old.marks.items (work.old.way.items ++ frame ∷ []) }
+    requires search { IsSearch heap.now.cells floor work.old (work.old.way.items ++ frame ∷ []) }
     requires there { frame.cell < length heap.now.cells }
     requires next { frame.next < 2 ^ 63 }
-    ensures goes { result ≡ Ok true → Goes heap.now.cells work.old.marks.items work.old.way.items frame work.new.marks.items work.new.way.items }
+    ensures goes { result ≡ Ok true → Steps heap.now.cells work.old frame work.new }
     ensures cycle { result ≡ Ok false → HasNoReading heap.now.cells }
     ensures number { length work.new.marks.items ≡ length work.old.marks.items }
     ensures noted { IsNoted work.new.marks.items work.new.met.items }
@@ -293,21 +323,21 @@ fn go_on(heap: &Heap, floor: usize, work: &mut Work, frame: Frame) -> Result<boo
         work.marks[at] = Mark::Done;
         return Ok(true);
     };
-    let end = heap.last(Ref(to));
-    match mark_of(&work.marks, floor, end.0) {
-        Mark::Done => work.way.push(Frame {
-            cell: at,
-            next: frame.next + 1,
-        })?,
+    let end = follow(heap, floor, &work.marks, to);
+    match mark_of(&work.marks, floor, end) {
+        Mark::Done => {
+            mark_links(heap, floor, work, to)?;
+            work.way.push(Frame {
+                cell: at,
+                next: frame.next + 1,
+            })?;
+        }
         Mark::Open => return Ok(false),
         Mark::New => {
-            work.met.push(end.0)?;
-            work.marks[end.0] = Mark::Open;
+            work.met.push(end)?;
+            work.marks[end] = Mark::Open;
             work.way.push(frame)?;
-            work.way.push(Frame {
-                cell: end.0,
-                next: 0,
-            })?;
+            work.way.push(Frame { cell: end, next: 0 })?;
         }
     }
     Ok(true)
@@ -316,7 +346,8 @@ fn go_on(heap: &Heap, floor: usize, work: &mut Work, frame: Frame) -> Result<boo
 // The mark of a cell; those below the floor are done.
 fn mark_of(marks: &[Mark], floor: usize, at: usize) -> Mark
     requires there { at < length marks.now }
-    ensures done { result ≡ mark.Done → (at < floor) ⊎ (slice_get marks.now at ≡ Some mark.Done) }
+    ensures done { result ≡ mark.Done → IsDone marks.now floor at }
+    ensures low { at < floor → result ≡ mark.Done }
     ensures other { (result ≡ mark.Done → ⊥) → slice_get marks.now at ≡ Some result }
 {
     if at < floor { Mark::Done } else { marks[at] }

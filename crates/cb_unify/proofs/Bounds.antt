@@ -1,5 +1,5 @@
 -- The nodes that writing trees adds.
-use Rattle.std.proofs.Common.{◌≡◌, ℕ, zero, suc, ◌+◌, ◌-◌, ◌*◌, ◌^◌, ◌<◌, ◌≤◌, Bool, true, List, [], ◌∷◌, length, map, take, drop, Option, refl, sym, ap, subst, ◌∙◌, arith}
+use Rattle.std.proofs.Common.{◌≡◌, ℕ, ◌+◌, ◌-◌, ◌*◌, ◌^◌, ◌<◌, ◌≤◌, true, List, [], ◌∷◌, length, take, drop, Option, sym, ap, subst, ◌∙◌, arith}
 use Rattle.std.specs.Prelude.{get_or, sum, sum_by}
 use Rattle.std.proofs.lemmas.List.Sums.{sum-map, sum_by_more, sum_by_more_le, sum_by-take-le, sum_by-drop_more, sum_by-take-drop}
 use Rattle.cb_model.specs.declared.Expr.{Expr}
@@ -10,7 +10,7 @@ use Rattle.cb_model.specs.declared.Tree.TheFolds.{fold-Tree, fold-roll-Tree}
 use Rattle.cb_model.specs.Outside.{Rose}
 use Rattle.cb_model.specs.Room.{expr_size, tree_size, tree_size_step}
 use Rattle.cb_model.specs.Values.{in_scope}
-use Rattle.cb_laws.proofs.Shapes.{size-bus, size-leaf}
+use Rattle.cb_laws.proofs.Shapes.{size-bus}
 use Rattle.cb_dd.specs.Diagram.{Store as Nodes}
 use Rattle.cb_elim.specs.Expression.{AreLevels, ExprCause, ExprRoom}
 use Rattle.cb_elim.specs.Laws.{live_levels}

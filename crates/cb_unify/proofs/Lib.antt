@@ -12,3 +12,6 @@ pub mod Exprs
 pub mod Compounds
 pub mod Written
 pub mod Bounds
+pub mod Delays
+pub mod Settled
+pub mod Places

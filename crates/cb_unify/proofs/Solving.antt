@@ -107,6 +107,20 @@ room-from s u n ls' ls e b r = let k = ap (λ (x : List (ℕ × ℕ)). pairs_bou
 pub cause-from : (s u : Booleans) (ls' ls : List (ℕ × ℕ)) → ls' ≡ ls → pairs_bound (length ls) (length s.slots) (width s) ≤ solve_most s → HasCause s u (pairs_bound (length ls') (length s.slots) (width s)) → HasCause s u (solve_most s)
 cause-from s u ls' ls e b c = record { rose = c.rose; below = let r = c.below in let k = ap (λ (x : List (ℕ × ℕ)). pairs_bound (length x) (length s.slots) (width s)) e in omega (arith, b, r, k) }
 
+-- ---- values
+
+-- a value of each sort
+pub any-value : Sort → Ground
+any-value sort.Bool = Bit false
+any-value sort.Bus = Word []
+any-value sort.Term = Int (pos 0)
+
+pub any-fits : (t : Sorts) (z : Sort) → Fits t z (any-value z)
+unfolding any-value
+any-fits t sort.Bool = tt
+any-fits t sort.Bus = tt
+any-fits t sort.Term = zero_fits
+
 -- ---- cells that were made one
 
 module _ (h : Terms) (s : Booleans) (ps : List (Ref × Ref)) (pending : List (ℕ × ℕ)) (pe : pending ≡ cells_of ps) (none : List (ℕ × ℕ)) (ne : none ≡ []) where
@@ -171,17 +185,6 @@ module _ (h : Terms) (s : Booleans) (ps : List (Ref × Ref)) (pending : List (�
           }
 
       -- something is left
-      any-value : Sort → Ground
-      any-value sort.Bool = Bit false
-      any-value sort.Bus = Word []
-      any-value sort.Term = Int (pos 0)
-
-      any-fits : (t : Sorts) (z : Sort) → Fits t z (any-value z)
-      unfolding any-value
-      any-fits t sort.Bool = tt
-      any-fits t sort.Bus = tt
-      any-fits t sort.Term = zero_fits
-
       some-reading : AllFinite h'.cells → (xs : List ℕ) (t : Sorts) → IsSorted t h'.sorts h'.cells → (a : Bits) → (w : Bits) × (g : Reading) × Reads t (seen_of h' s' xs) a w g
       some-reading all xs t o a =
           let w = solves.some a in

@@ -18,8 +18,8 @@ use Rattle.cb_model.specs.declared.Tree.TheOpen.{Tree-F}
 use Rattle.cb_model.specs.declared.Tree.TheVariants as tree
 use Rattle.cb_model.specs.declared.Tree.TheFolds.{fold-Tree, fold-roll-Tree}
 use Rattle.cb_model.specs.Bits.{Bits, Each, all_of}
-use Rattle.cb_model.specs.Sorted.{are_boolean, arguments_fit, same_sort, same_sorts, tree_sort, tree_fits, variable_has, variables_fit, variables_fit_step}
-use Rattle.cb_model.specs.Values.{Ground, Bit, Word, Int, Name, Sorts, Valuation, expr_value, grounds, in_scope, in_scope_step, tail_of, tree_in_scope, tree_in_scope_step, tree_value}
+use Rattle.cb_model.specs.Sorted.{are_boolean, arguments_fit, same_sort, same_sorts, tree_sort, variable_has, variables_fit, variables_fit_step}
+use Rattle.cb_model.specs.Values.{Bit, Name, Sorts, Valuation, expr_value, grounds, in_scope, in_scope_step, tail_of, tree_in_scope, tree_in_scope_step, tree_value}
 use Rattle.cb_laws.proofs.SortedTrees.{args-bus, args-leaf, args-node, fit-node, sort-bus, sort-int, sort-leaf, sort-node, sort-term}
 use Rattle.cb_laws.proofs.Values.{value-bus, value-int, value-leaf, value-node, value-term, value-var}
 use Rattle.cb_boole.specs.View.{point}
@@ -38,8 +38,8 @@ use Rattle.cb_heap.specs.Heap.{Terms}
 use Rattle.cb_heap.specs.Reading.{Reading}
 use Rattle.cb_heap.proofs.Adding.{get-front, there-more}
 use Rattle.cb_heap.proofs.Steps.{bit-inj, no_some, some-inj}
-use Rattle.cb_unify.specs.State.{Seen, FitsTable, IsState, Reads, node_bit, value_of}
-use Rattle.cb_unify.specs.Growth.{FrameGives, HasSlot, IsAdded, IsBuilt, IsGrown, IsLeafOf, IsPut, IsSortedFrame}
+use Rattle.cb_unify.specs.State.{Seen, FitsTable, IsState, Reads, node_bit}
+use Rattle.cb_unify.specs.Growth.{FrameGives, HasSlot, IsAdded, IsGrown, IsLeafOf, IsPut, IsSortedFrame}
 use Rattle.cb_unify.specs.Moments.{KeepsMoments}
 use Rattle.cb_elim.specs.Moments.{KeepsMoments as KeepsBools}
 use Rattle.cb_heap.proofs.Back.{keeps-none as keeps-terms}

@@ -14,11 +14,12 @@ ghost use Rattle.cb_unify.specs.State.{Seen, FitsTable, HasValue, IsState, no_st
 ghost use Rattle.cb_unify.specs.Moments.{Moment, IsMoment, KeepsMoments, moment_of, reverted};
 ghost use Rattle.cb_unify.specs.Growth.{HasSlot};
 ghost use Rattle.cb_unify.specs.Lending.{LendsOps, LendsStore};
-ghost use Rattle.cb_unify.specs.Laws.{OpsAreLent, StoreIsLent};
+ghost use Rattle.cb_unify.specs.Laws.{OpsAreLent, PlacesAreFew, StoreIsLent};
 
 mod build;
 mod bus;
 mod fresh;
+mod holds;
 mod solve;
 
 use cb_dd::Node;
@@ -181,4 +182,10 @@ impl State {
 pub fn loans_are_safe()
     ensures store { StoreIsLent }
     ensures ops { OpsAreLent }
+{}
+
+/// A tree that `build` writes takes no more slots than it has operators and leaves: what a bound on the slots of a branch
+/// rests on.
+pub fn trees_have_few_places()
+    ensures { PlacesAreFew }
 {}

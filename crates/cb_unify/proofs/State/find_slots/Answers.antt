@@ -1,4 +1,4 @@
-use Rattle.std.proofs.Common.{◌≡◌, ℕ, List, ◌++◌, [], ◌∷◌, length, Option, Some, rules, sym, subst}
+use Rattle.std.proofs.Common.{◌≡◌, List, ◌++◌, [], ◌∷◌, length, Option, Some, rules, sym, subst}
 use Rattle.std.specs.Prelude.{slice_get}
 use Rattle.cb_elim.specs.declared.Slot.{Slot}
 use Rattle.cb_unify.specs.Trees.{HaveSlots}

@@ -1,4 +1,4 @@
-use Rattle.std.proofs.Common.{◌≡◌, ℕ, ◌+◌, ◌*◌, ◌≤◌, true, length, sym, subst}
+use Rattle.std.proofs.Common.{◌≡◌, ◌+◌, ◌*◌, ◌≤◌, true, length, sym, subst}
 use Rattle.cb_model.specs.Room.{expr_size}
 use Rattle.cb_model.specs.Values.{in_scope}
 use Rattle.cb_elim.specs.Unified.{HasCause}

@@ -1,7 +1,5 @@
-use Rattle.std.proofs.Common.{◌≡◌, ℕ, ◌+◌, ◌<◌, ◌≤◌, true, List, [], ◌∷◌, ◌++◌, length, map, take, Option, rules, refl, sym, ap, subst, ◌∙◌, arith}
+use Rattle.std.proofs.Common.{◌≡◌, ◌+◌, ◌<◌, ◌≤◌, true, List, [], ◌∷◌, ◌++◌, length, map, take, rules, sym, ap, subst, ◌∙◌, arith}
 use Rattle.std.specs.Prelude.{sum_by}
-use Rattle.std.proofs.Math.Seq.{take-length}
-use Rattle.cb_model.specs.declared.Expr.{Expr}
 use Rattle.cb_model.specs.declared.Tree.{Tree}
 use Rattle.cb_model.specs.declared.Tree.TheVariants as tree
 use Rattle.cb_model.specs.Bits.{Each, all_of}
@@ -10,7 +8,7 @@ use Rattle.cb_model.specs.Values.{tree_in_scope}
 use Rattle.cb_dd.specs.Diagram.{Store as Nodes}
 use Rattle.cb_heap.specs.declared.Ref.{Ref}
 use Rattle.cb_unify.specs.State.{Seen}
-use Rattle.cb_unify.specs.Trees.{AreTreesOf, IsCompoundOf, IsTreeOf, bit_places, nodes_most}
+use Rattle.cb_unify.specs.Trees.{AreTreesOf, IsCompoundOf, IsTreeOf, nodes_most}
 use Rattle.cb_unify.proofs.Bounds.{cause-after, node-falls, node-front, node-more, node-part, part-falls, room-after, room-le}
 use Rattle.cb_unify.proofs.Making.{take-step}
 use Rattle.cb_unify.proofs.Written.{argument-scope, each-of, frame-more, int-at, made-node, more-cells, node-scope, one-more, own-term, slots-later, take-past}
