@@ -10,7 +10,7 @@ use Rattle.cb_laws.proofs.Tables.{sat_bits, bits_sat, with_bits, zero_fits}
 
 -- ---- tests of all lists of bits
 
-or_false : (x y : Bool) → (x || y) ≡ false → (x ≡ false) × (y ≡ false)
+pub or_false : (x y : Bool) → (x || y) ≡ false → (x ≡ false) × (y ≡ false)
 or_false true y h = absurd (cc)
 or_false false y h = (refl, h)
 
@@ -67,7 +67,7 @@ every_all (suc n) p h (true ∷ r) e = every_all n (λ r. p (true ∷ r)) (and_t
 
 -- ---- the first bits
 
-length-first : (at n : ℕ) (a : Bits) → length (map a (numbers_from at n)) ≡ n
+pub length-first : (at n : ℕ) (a : Bits) → length (map a (numbers_from at n)) ≡ n
 length-first at zero a = refl
 length-first at (suc n) a = ap suc (length-first (suc at) n a)
 

@@ -8,7 +8,9 @@ use Rattle.cb_model.specs.declared.Tree.TheOpen.{Tree-F}
 use Rattle.cb_model.specs.declared.Tree.TheViews.{roll-Tree}
 use Rattle.cb_model.specs.declared.Tree.TheFolds.{fold-roll-Tree, ind-Tree, map-Tree}
 use Rattle.cb_model.specs.Bits.{Bits, AgreeBelow, all_of}
+use Rattle.cb_model.specs.Equations.{Item, Pair, Part, PartHolds, Holds, item_in_scope, Sat}
 use Rattle.cb_model.specs.Values.{Ground, Bit, Word, Name, grounds, Valuation, expr_value, in_scope, tail_of, tree_step, tree_value, tree_in_scope, tree_in_scope_step}
+use Rattle.cb_model.specs.Circuits.{Outputs}
 use Rattle.cb_laws.proofs.Depends.{depends}
 use Rattle.cb_laws.proofs.Decided.{and_true}
 
@@ -70,3 +72,28 @@ module _ (c v : ℕ) (a a' : Bits) (b b' : Valuation) (p : AgreeBelow c a a') (q
 
   pub tree_depends : (t : Tree) → Same t
   tree_depends = ind-Tree Same same_roll
+
+  -- ---- items
+
+  own_same : (own : List ℕ) → list_all (λ n. nat_lt n v) own ≡ true → map b.bits own ≡ map b'.bits own
+  own_same [] h = refl
+  own_same (n ∷ ns) h =
+      let here : b.bits n ≡ b'.bits n = q.bits n (below n v (and_true _ _ h).0) in
+      let rest : map b.bits ns ≡ map b'.bits ns = own_same ns (and_true _ _ h).1 in
+      rw (here, rest)
+
+  item_depends : (i : Item) → item_in_scope c v i ≡ true → Holds a b i → Holds a' b' i
+  item_depends (Pair l r) s h = sym (tree_depends l (and_true _ _ s).0) ∙ h ∙ tree_depends r (and_true _ _ s).1
+  item_depends (Part k ins outs own) s h =
+      let s' = (and_true _ _ s).1 in
+      let bits : map b.bits own ≡ map b'.bits own = own_same own (and_true _ _ s').1 in
+      record {
+        inputs = sym (tree_depends ins (and_true _ _ s).0) ∙ h.inputs ∙ ap Word bits;
+        output = h.output;
+        given = subst (λ i. Outputs k i h.output) bits h.given;
+        outputs = sym (tree_depends outs (and_true _ _ s').0) ∙ h.outputs;
+      }
+
+  pub items_depend : (es : List Item) → list_all (item_in_scope c v) es ≡ true → Sat es a b → Sat es a' b'
+  items_depend [] s h = tt
+  items_depend (e ∷ es) s h = (item_depends e (and_true _ _ s).0 h.0, items_depend es (and_true _ _ s).1 h.1)

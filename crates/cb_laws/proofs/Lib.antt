@@ -10,6 +10,12 @@ pub mod Depends
 pub mod Decided
 pub mod DependsTrees
 pub mod Merged
+pub mod Search
+pub mod Codes
+pub mod CodeSorts
+pub mod Unified
+pub mod Coded
+pub mod DecidedTrees
 pub mod Shapes
 pub mod Fixed
 pub mod OneReading

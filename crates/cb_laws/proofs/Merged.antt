@@ -18,7 +18,7 @@ use Rattle.cb_model.specs.Circuits.{Outputs, read_all}
 use Rattle.cb_model.specs.Values.{Ground, Bit, Word, Int, Name, Grounds, Last, More, grounds, Sorts, Fits, FitAll, World, Valuation, IsValuation, expr_value, tail_of, tree_step, tree_value, tree_in_scope}
 use Rattle.cb_model.specs.Equations.{Item, Pair, Part, PartHolds, Holds, item_in_scope, Sat, SolvedAt, Solvable, Meets, Table, ReadsBelow, Tabled, TableBit, TableWord, TableInt, TableName, Tableds, NoTabled, OneTabled, at, all_at, Substitution, valued, Solves, TabledBelow, AllBelow, ReadsOnly}
 use Rattle.cb_laws.specs.Laws.{InScope, SolvableInAlgebra}
-use Rattle.cb_laws.proofs.DependsTrees.{agree_self, tree_depends}
+use Rattle.cb_laws.proofs.DependsTrees.{agree_self, items_depend}
 use Rattle.cb_laws.proofs.Decided.{and_true, agree_first, trimmed, same_trimmed}
 
 -- ---- a value with the form of the first and the bits of the second
@@ -168,23 +168,6 @@ module _ (a a' : Bits) (b b' : Valuation) where
   all_merge [] h k = tt
   all_merge (e ∷ es) h k = (item_merges e h.0 k.0, all_merge es h.1 k.1)
 
--- ---- items read only the constants and variables that they have
-
-module _ (c v : ℕ) (a a' : Bits) (b : Valuation) (p : AgreeBelow c a a') where
-  moves : (t : Tree) → tree_in_scope c v t ≡ true → tree_value a b t ≡ tree_value a' b t
-  moves = tree_depends c v a a' b b p (agree_self v b)
-
-  item_moves : (i : Item) → item_in_scope c v i ≡ true → Holds a b i → Holds a' b i
-  item_moves (Pair l r) s h = let q = and_true _ _ s in sym (moves l q.0) ∙ h ∙ moves r q.1
-  item_moves (Part k ins outs own) s h =
-      let q = and_true _ _ s in
-      let u = and_true _ _ q.1 in
-      record { inputs = sym (moves ins q.0) ∙ h.inputs; output = h.output; given = h.given; outputs = sym (moves outs u.0) ∙ h.outputs }
-
-  pub all_move : (es : List Item) → InScope c v es → Sat es a b → Sat es a' b
-  all_move [] s h = tt
-  all_move (e ∷ es) s h = let q = and_true _ _ s in (item_moves e q.0 h.0, all_move es q.1 h.1)
-
 -- ---- tables
 
 tables : List Bool → (Bits → List Bool) → List Table
@@ -278,7 +261,7 @@ module _ (w : World) (c v : ℕ) (es : List Item) (scope : InScope c v es) (solv
   solves : Solves w es solution
   solves a ok =
       let b : Valuation = merged form.b (own a).b in
-      let sat : Sat es a b = all_move c v (trimmed c a) a b (agree_first c a) es scope (all_merge (trimmed c (λ k. false)) (trimmed c a) form.b (own a).b es form.sat (own a).sat) in
+      let sat : Sat es a b = items_depend c v (trimmed c a) a b b (agree_first c a) (agree_self v b) es scope (all_merge (trimmed c (λ k. false)) (trimmed c a) form.b (own a).b es form.sat (own a).sat) in
       let sorted : IsValuation w b = λ n. merge_fits w.arguments sort.Term (form.b.terms n) ((own a).b.terms n) (form.sorted n) in
       subst (λ x. Meets w es a x) (is_merged a) (record { admitted = ok; sorted = sorted; sat = sat })
 

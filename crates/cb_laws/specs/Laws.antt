@@ -79,6 +79,10 @@ InScope c v es = list_all (item_in_scope c v) es ≡ true
 abbrev pub SolvableInAlgebra : Type 0
 SolvableInAlgebra = (w : World) (c v : ℕ) (es : List Item) → InScope c v es → Solvable w es ↔ ((s : Substitution) × (ReadsOnly c s × Solves w es s))
 
+-- equations of all sorts and circuit items are solvable or refuted
+abbrev pub Decided : Type 0
+Decided = (w : World) (c v : ℕ) (es : List Item) → InScope c v es → Solvable w es ⊎ Refuted w es
+
 -- ---- the derivation
 
 -- a goal that is ready stays ready after more equations

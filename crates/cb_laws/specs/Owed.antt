@@ -6,7 +6,7 @@ use Rattle.cb_model.specs.declared.Outcome.{Outcome}
 use Rattle.cb_model.specs.Text.{Text, IsPrefix}
 use Rattle.cb_model.specs.Values.{World}
 use Rattle.cb_model.specs.Circuits.{Module, circuit_of, flat_named, Agrees, BySpec}
-use Rattle.cb_model.specs.Equations.{Item, Solvable, Refuted}
+use Rattle.cb_model.specs.Equations.{Item, Solvable}
 use Rattle.cb_model.specs.Program.{Program}
 use Rattle.cb_model.specs.Derivation.{Ready}
 use Rattle.cb_model.specs.Answers.{IsShape}
@@ -14,10 +14,6 @@ use Rattle.cb_model.specs.Facts.{Spec}
 use Rattle.cb_model.specs.Adder.{adder_text}
 use Rattle.cb_model.specs.Output.{Loaded, IsLoaded, module_named, spec_named, Output, OutputBegins}
 use Rattle.cb_laws.specs.Laws.{InScope}
-
--- equations of all sorts and circuit items are solvable or refuted
-abbrev pub Decided : Type 0
-Decided = (w : World) (c v : ℕ) (es : List Item) → InScope c v es → Solvable w es ⊎ Refuted w es
 
 -- a goal is ready or not, where the equations are solvable
 abbrev pub ReadyDecided : Type 0

@@ -1,0 +1,5 @@
+use Rattle.cb_laws.proofs.DecidedTrees.{decided as law}
+use Rattle.cb_laws.proofs.items_decided.Goals as goal
+
+pub returns : goal.returns
+returns c = law
