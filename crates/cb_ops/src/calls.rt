@@ -10,8 +10,8 @@ use crate::Ops;
 use crate::memos::{else_side, then_side};
 use cb_dd::{Node, Stop};
 
-// For how many waiting calls a list has room at first.
-const FIRST_PENDING: usize = 64;
+// For how many waiting calls a list has room at first: as many as an allocator gives at once.
+const FIRST_PENDING: usize = 12;
 
 // What a call asks for.
 #[derive(Clone, Copy)]
