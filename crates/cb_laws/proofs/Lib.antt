@@ -15,7 +15,13 @@ pub mod Codes
 pub mod CodeSorts
 pub mod Unified
 pub mod Coded
+pub mod Bounds
+pub mod Solutions
 pub mod DecidedTrees
+pub mod ReadyWords
+pub mod Apart
+pub mod Matching
+pub mod ReadyGoals
 pub mod Shapes
 pub mod Fixed
 pub mod OneReading

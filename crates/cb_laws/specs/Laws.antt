@@ -89,6 +89,10 @@ Decided = (w : World) (c v : ℕ) (es : List Item) → InScope c v es → Solvab
 abbrev pub ReadyStays : Type 0
 ReadyStays = (p : Program) (es more : List Item) (g : Goal) → Ready p es g → Ready p (es ++ more) g
 
+-- a goal is ready or not, where the equations are solvable
+abbrev pub ReadyDecided : Type 0
+ReadyDecided = (p : Program) (v : ℕ) (es : List Item) (g : Goal) → InScope p.constants v es → Solvable p.world es → Ready p es g ⊎ (Ready p es g → ⊥)
+
 -- a step has one outcome
 abbrev pub StepDetermined : Type 0
 StepDetermined = (p : Program) (e : Entry) (s s₁ s₂ : List Entry) (v₁ v₂ : Option Branch) → Step p e s s₁ v₁ → Step p e s s₂ v₂ → (s₁ ≡ s₂) × (v₁ ≡ v₂)
