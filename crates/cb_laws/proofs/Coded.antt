@@ -65,6 +65,9 @@ mutual
 pub coded-inj : (g h : Ground) → coded g ≡ coded h → g ≡ h
 coded-inj g h e = sym (back g) ∙ ap decoded e ∙ back h
 
+pub all_coded-inj : (gs hs : Grounds) → all_coded gs ≡ all_coded hs → gs ≡ hs
+all_coded-inj gs hs e = sym (all_back gs) ∙ ap all_decoded e ∙ all_back hs
+
 -- ---- sorts
 
 pub bus_is : (xs : List Bool) → IsBusCode (bus_coded xs)

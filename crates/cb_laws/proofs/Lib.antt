@@ -28,6 +28,7 @@ pub mod OneReading
 pub mod OpenTrees
 pub mod OneShape
 pub mod OneLine
+pub mod Shaped
 pub mod WrittenForm
 pub mod LineOfTokens
 pub mod Listed

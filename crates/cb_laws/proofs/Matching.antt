@@ -22,21 +22,21 @@ use Rattle.cb_laws.proofs.Decided.{agree_first, and_true, length-first, trimmed}
 
 -- ---- lists
 
-abbrev unknowns_in : Form → List Unknown
+abbrev pub unknowns_in : Form → List Unknown
 unknowns_in (Open x) = x ∷ []
 unknowns_in (Formula e) = []
 unknowns_in (Fixed m) = []
 unknowns_in (Both s u) = unknowns_in s ++ unknowns_in u
 
-each_front : {A : Type 0} (P : A → Type 0) (xs ys : List A) → Each P (xs ++ ys) → Each P xs
+pub each_front : {A : Type 0} (P : A → Type 0) (xs ys : List A) → Each P (xs ++ ys) → Each P xs
 each_front P [] ys h = tt
 each_front P (x ∷ xs) ys h = (h.0, each_front P xs ys h.1)
 
-each_behind : {A : Type 0} (P : A → Type 0) (xs ys : List A) → Each P (xs ++ ys) → Each P ys
+pub each_behind : {A : Type 0} (P : A → Type 0) (xs ys : List A) → Each P (xs ++ ys) → Each P ys
 each_behind P [] ys h = h
 each_behind P (x ∷ xs) ys h = each_behind P xs ys h.1
 
-each_of : {A : Type 0} (P : A → Type 0) (xs : List A) → ((x : A) → P x) → Each P xs
+pub each_of : {A : Type 0} (P : A → Type 0) (xs : List A) → ((x : A) → P x) → Each P xs
 each_of P [] h = tt
 each_of P (x ∷ xs) h = (h x, each_of P xs h)
 

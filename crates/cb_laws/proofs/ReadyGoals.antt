@@ -22,11 +22,11 @@ use Rattle.cb_laws.proofs.ReadyWords.{word_holds}
 use Rattle.cb_laws.proofs.Matching.{matches_decided}
 use Rattle.cb_laws.proofs.Decided.{and_true, both_true}
 
-trees_wider : (n m : ℕ) → n ≤ m → (xs : List Tree) → list_all (tree_in_scope n n) xs ≡ true → list_all (tree_in_scope m m) xs ≡ true
+pub trees_wider : (n m : ℕ) → n ≤ m → (xs : List Tree) → list_all (tree_in_scope n n) xs ≡ true → list_all (tree_in_scope m m) xs ≡ true
 trees_wider n m l [] h = refl
 trees_wider n m l (x ∷ xs) h = let q = and_true _ _ h in both_true _ _ (tree_wider n n m m l l x q.0) (trees_wider n m l xs q.1)
 
-trees_bound : (xs : List Tree) → (n : ℕ) × (list_all (tree_in_scope n n) xs ≡ true)
+pub trees_bound : (xs : List Tree) → (n : ℕ) × (list_all (tree_in_scope n n) xs ≡ true)
 trees_bound [] = (0, refl)
 trees_bound (x ∷ xs) =
     let b = tree_bound x in
@@ -40,7 +40,7 @@ module _ (w : World) (c v : ℕ) (es : List Item) (scope : InScope c v es) (solv
   wider : (n : ℕ) → c ≤ n → v ≤ n → InScope n n es
   wider n l m = items_wider c v n n l m es scope
 
-  solved : (n : ℕ) → InScope n n es → Solved w.arguments (item_pairs n es)
+  pub solved : (n : ℕ) → InScope n n es → Solved w.arguments (item_pairs n es)
   solved n s = from (unified w.arguments (item_pairs n es))
     where
       from : Outcome w.arguments (item_pairs n es) → Solved w.arguments (item_pairs n es)

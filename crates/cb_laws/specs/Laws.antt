@@ -133,7 +133,11 @@ PrintedDenote = (p : Program) (q : Query) (budget used : ℕ) (ns : List Note) (
     Contains (printed_of ns) b → (terms shape : List Tree) (a : Bits) → Admitted p.world a → IsShape p.world b.items terms shape → (m : ℕ) →
     Denotes (Gives p.world b.items terms shape a) m
 
--- the shape of terms under solvable equations is one
+-- solvable equations have a shape for all terms
+abbrev pub HasShape : Type 0
+HasShape = (w : World) (c v : ℕ) (es : List Item) (terms : List Tree) → InScope c v es → Solvable w es → (shape : List Tree) × IsShape w es terms shape
+
+-- and it is one
 abbrev pub ShapeIsOne : Type 0
 ShapeIsOne = (w : World) (es : List Item) (terms s s' : List Tree) → Solvable w es → IsShape w es terms s → IsShape w es terms s' → s ≡ s'
 
