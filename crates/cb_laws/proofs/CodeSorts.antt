@@ -1,13 +1,13 @@
 -- Whether a value has a sort can be decided, and of a form's value it does not depend on the values of the unknowns.
-use Rattle.std.proofs.Common.{◌≡◌, ◌⊎◌, inl, inr, ℕ, Bool, List, [], ◌∷◌, refl, sym, ◌∙◌, ap, subst, ℤ}
+use Rattle.std.proofs.Common.{◌≡◌, ◌⊎◌, inl, inr, ℕ, Bool, List, [], ◌∷◌, refl, subst, ℤ}
 use Rattle.std.specs.Prelude.{FitsSigned, get_or}
 use Rattle.std.specs.Int.{w64, int_wrap}
 use Rattle.std.proofs.lemmas.Int.{SFits-int_wrap, int_wrap_fits}
 use Rattle.cb_model.specs.declared.Sort.{Sort}
 use Rattle.cb_model.specs.declared.Sort.TheVariants as sort
 use Rattle.cb_model.specs.Values.{Sorts}
+use Rattle.cb_laws.proofs.Codes.{BusEnd, ArgumentsEnd, Number, Called, Unknown, ABus, ATerm, Code, Truth, Marked, Join, Form, Open, Formula, Fixed, Both, Truths, Choice, value, IsBusCode, CodeFits, CodesFit, AreFit}
 use Rattle.cb_laws.proofs.Search.{one_int}
-use Rattle.cb_laws.proofs.Codes.{Mark, BusEnd, ArgumentsEnd, Number, Called, Unknown, ABus, ATerm, Code, Truth, Marked, Join, Form, Open, Formula, Fixed, Both, Truths, Choice, value, IsBusCode, CodeFits, CodesFit, sort_of, AreFit}
 
 -- ---- decided
 

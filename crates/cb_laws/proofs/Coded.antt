@@ -1,7 +1,6 @@
 -- Ground values as codes, and trees as forms of them.
-use Rattle.std.proofs.Common.{◌≡◌, ℕ, zero, suc, Bool, true, false, List, [], ◌∷◌, ◌++◌, map, refl, sym, ◌∙◌, ap, subst, ℤ, pos}
-use Rattle.std.specs.Prelude.{Option, Some, None, get_or, FitsSigned}
-use Rattle.std.specs.Int.{w64}
+use Rattle.std.proofs.Common.{◌≡◌, ℕ, Bool, List, [], ◌∷◌, ◌++◌, map, refl, sym, ◌∙◌, ap, subst}
+use Rattle.std.specs.Prelude.{Option, Some, None, get_or}
 use Rattle.std.proofs.Math.Path.{fun_ext}
 use Rattle.cb_model.specs.declared.Expr.{Expr}
 use Rattle.cb_model.specs.declared.Sort.{Sort}
@@ -12,7 +11,7 @@ use Rattle.cb_model.specs.declared.Tree.TheViews.{roll-Tree}
 use Rattle.cb_model.specs.declared.Tree.TheFolds.{fold-Tree, fold-roll-Tree, ind-Tree, map-Tree}
 use Rattle.cb_model.specs.Bits.{Bits}
 use Rattle.cb_model.specs.Values.{Ground, Bit, Word, Int, Name, Grounds, Last, More, grounds, Sorts, Fits, FitAll, World, Valuation, IsValuation, expr_value, tail_of, tree_step, tree_value}
-use Rattle.cb_laws.proofs.Codes.{Mark, BusEnd, ArgumentsEnd, Number, Called, Unknown, ABus, ATerm, Code, Truth, Marked, Join, Form, Open, Formula, Fixed, Both, Truths, Choice, value, IsBusCode, CodeFits, CodesFit, sort_of, AreFit}
+use Rattle.cb_laws.proofs.Codes.{BusEnd, ArgumentsEnd, Number, Called, Unknown, ABus, ATerm, Code, Truth, Marked, Join, Form, Open, Formula, Fixed, Both, Truths, Choice, value, IsBusCode, CodeFits, CodesFit, AreFit}
 
 -- ---- values
 
@@ -65,6 +64,9 @@ mutual
 
 pub coded-inj : (g h : Ground) → coded g ≡ coded h → g ≡ h
 coded-inj g h e = sym (back g) ∙ ap decoded e ∙ back h
+
+pub all_coded-inj : (gs hs : Grounds) → all_coded gs ≡ all_coded hs → gs ≡ hs
+all_coded-inj gs hs e = sym (all_back gs) ∙ ap all_decoded e ∙ all_back hs
 
 -- ---- sorts
 

@@ -1,15 +1,12 @@
 -- Values as pairs and marks, and forms of them with unknown parts.
-use Rattle.std.proofs.Common.{◌≡◌, ◌⊎◌, inl, inr, ℕ, zero, suc, ◌+◌, ◌<◌, ◌≤◌, Bool, true, false, ◌&&◌, ◌||◌, ◌==◌, if◌then◌else◌, List, [], ◌∷◌, map, length, refl, sym, ◌∙◌, ap, subst, arith, rules, ℤ}
+use Rattle.std.proofs.Common.{◌≡◌, ◌⊎◌, inl, inr, ℕ, suc, ◌+◌, ◌≤◌, Bool, true, false, ◌||◌, ◌==◌, if◌then◌else◌, List, [], ◌∷◌, refl, sym, ◌∙◌, ap, arith, rules, ℤ}
 use Rattle.std.specs.Prelude.{FitsSigned, get_or}
 use Rattle.std.specs.Int.{w64}
-use Rattle.std.proofs.lemmas.Bool.{cases_eq}
-use Rattle.std.proofs.lemmas.Int.{SFits-int_wrap, int_wrap_fits}
 use Rattle.cb_model.specs.declared.Expr.{Expr}
 use Rattle.cb_model.specs.declared.Sort.{Sort}
 use Rattle.cb_model.specs.declared.Sort.TheVariants as sort
-use Rattle.cb_model.specs.Bits.{Each}
 use Rattle.cb_model.specs.Values.{Sorts}
-use Rattle.cb_laws.proofs.Decided.{and_true, or_false}
+use Rattle.cb_laws.proofs.Decided.{or_false}
 
 -- what stands where a bus or a list of arguments ends, an integer, and a name
 pub data Mark : Type 0 where

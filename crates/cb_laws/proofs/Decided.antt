@@ -22,7 +22,7 @@ or_true : (x y : Bool) → (x || y) ≡ true → (x ≡ true) ⊎ (y ≡ true)
 or_true true y h = inl refl
 or_true false y h = inr h
 
-and_false : (x y : Bool) → (x && y) ≡ false → (x ≡ false) ⊎ (y ≡ false)
+pub and_false : (x y : Bool) → (x && y) ≡ false → (x ≡ false) ⊎ (y ≡ false)
 and_false true y h = inr h
 and_false false y h = inl refl
 
@@ -100,7 +100,7 @@ hold_each : (es : List Equal) (a b : Bits) → pairs_hold es a b ≡ true → Ho
 hold_each [] a b h = tt
 hold_each (e ∷ es) a b h = (same_bit _ _ (and_true _ _ h).0, hold_each es a b (and_true _ _ h).1)
 
-both_true : (x y : Bool) → x ≡ true → y ≡ true → (x && y) ≡ true
+pub both_true : (x y : Bool) → x ≡ true → y ≡ true → (x && y) ≡ true
 both_true x y h k = rw (h, k) refl
 
 each_hold : (es : List Equal) (a b : Bits) → HoldAt es a b → pairs_hold es a b ≡ true

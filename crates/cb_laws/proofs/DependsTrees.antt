@@ -1,5 +1,5 @@
 -- The value of a tree depends only on the constants and variables that it may read.
-use Rattle.std.proofs.Common.{◌≡◌, ℕ, ◌<◌, Bool, true, ◌&&◌, nat_lt, List, [], ◌∷◌, ◌++◌, map, refl, sym, ◌∙◌, ap, subst, rules}
+use Rattle.std.proofs.Common.{◌≡◌, ℕ, ◌<◌, Bool, true, nat_lt, List, [], ◌∷◌, map, refl, sym, ◌∙◌, ap, subst, rules}
 use Rattle.std.specs.Prelude.{Option, Some, None, option_to_list}
 use Rattle.std.specs.List.{list_all}
 use Rattle.cb_model.specs.declared.Expr.{Expr}
@@ -10,6 +10,7 @@ use Rattle.cb_model.specs.declared.Tree.TheFolds.{fold-roll-Tree, ind-Tree, map-
 use Rattle.cb_model.specs.Bits.{Bits, AgreeBelow, all_of}
 use Rattle.cb_model.specs.Equations.{Item, Pair, Part, PartHolds, Holds, item_in_scope, Sat}
 use Rattle.cb_model.specs.Values.{Ground, Bit, Word, Name, grounds, Valuation, expr_value, in_scope, tail_of, tree_step, tree_value, tree_in_scope, tree_in_scope_step}
+use Rattle.cb_model.specs.declared.Circuit.{Circuit}
 use Rattle.cb_model.specs.Circuits.{Outputs}
 use Rattle.cb_laws.proofs.Depends.{depends}
 use Rattle.cb_laws.proofs.Decided.{and_true}
@@ -82,17 +83,24 @@ module _ (c v : ℕ) (a a' : Bits) (b b' : Valuation) (p : AgreeBelow c a a') (q
       let rest : map b.bits ns ≡ map b'.bits ns = own_same ns (and_true _ _ h).1 in
       rw (here, rest)
 
-  item_depends : (i : Item) → item_in_scope c v i ≡ true → Holds a b i → Holds a' b' i
-  item_depends (Pair l r) s h = sym (tree_depends l (and_true _ _ s).0) ∙ h ∙ tree_depends r (and_true _ _ s).1
-  item_depends (Part k ins outs own) s h =
+  -- a circuit holds with the same outputs
+  pub part_depends : (k : Circuit) (ins outs : Tree) (own : List ℕ) → item_in_scope c v (Part k ins outs own) ≡ true → (h : PartHolds a b k ins outs own) →
+      (p : PartHolds a' b' k ins outs own) × (p.output ≡ h.output)
+  part_depends k ins outs own s h =
       let s' = (and_true _ _ s).1 in
-      let bits : map b.bits own ≡ map b'.bits own = own_same own (and_true _ _ s').1 in
-      record {
-        inputs = sym (tree_depends ins (and_true _ _ s).0) ∙ h.inputs ∙ ap Word bits;
-        output = h.output;
-        given = subst (λ i. Outputs k i h.output) bits h.given;
-        outputs = sym (tree_depends outs (and_true _ _ s').0) ∙ h.outputs;
-      }
+      let bits : map b.bits own ≡ map b'.bits own = own_same own (and_true _ _ s').1 in (
+        record {
+          inputs = sym (tree_depends ins (and_true _ _ s).0) ∙ h.inputs ∙ ap Word bits;
+          output = h.output;
+          given = subst (λ i. Outputs k i h.output) bits h.given;
+          outputs = sym (tree_depends outs (and_true _ _ s').0) ∙ h.outputs;
+        },
+        refl,
+      )
+
+  pub item_depends : (i : Item) → item_in_scope c v i ≡ true → Holds a b i → Holds a' b' i
+  item_depends (Pair l r) s h = sym (tree_depends l (and_true _ _ s).0) ∙ h ∙ tree_depends r (and_true _ _ s).1
+  item_depends (Part k ins outs own) s h = (part_depends k ins outs own s h).0
 
   pub items_depend : (es : List Item) → list_all (item_in_scope c v) es ≡ true → Sat es a b → Sat es a' b'
   items_depend [] s h = tt

@@ -1,10 +1,9 @@
 -- Solutions at single assignments join to one in the algebra: the forms are those of the first assignment's solution, the
 -- bits those of each assignment's own where it has them.
-use Rattle.std.proofs.Common.{◌≡◌, ℕ, zero, suc, ◌+◌, ◌<◌, ◌↔◌, Bool, true, false, ◌&&◌, nat_lt, List, [], ◌∷◌, ◌++◌, map, length, get_or, refl, sym, ◌∙◌, ap, subst, arith, rules, pos}
+use Rattle.std.proofs.Common.{◌≡◌, ℕ, Bool, false, List, [], ◌∷◌, ◌++◌, map, length, get_or, refl, sym, ◌∙◌, ap, subst, arith, pos}
 use Rattle.std.proofs.lemmas.List.{length-map}
 use Rattle.std.proofs.Math.Path.{fun_ext}
 use Rattle.std.specs.Prelude.{Option, Some, None}
-use Rattle.std.specs.List.{list_all}
 use Rattle.cb_model.specs.declared.Sort.{Sort}
 use Rattle.cb_model.specs.declared.Sort.TheVariants as sort
 use Rattle.cb_model.specs.declared.Circuit.{Circuit}
@@ -13,13 +12,13 @@ use Rattle.cb_model.specs.declared.Tree.{Tree}
 use Rattle.cb_model.specs.declared.Tree.TheOpen.{Tree-F}
 use Rattle.cb_model.specs.declared.Tree.TheViews.{roll-Tree}
 use Rattle.cb_model.specs.declared.Tree.TheFolds.{fold-roll-Tree, ind-Tree, map-Tree}
-use Rattle.cb_model.specs.Bits.{Bits, AgreeBelow, Each, bits_of, first_bits, numbers_from}
-use Rattle.cb_model.specs.Circuits.{Outputs, read_all}
-use Rattle.cb_model.specs.Values.{Ground, Bit, Word, Int, Name, Grounds, Last, More, grounds, Sorts, Fits, FitAll, World, Valuation, IsValuation, expr_value, tail_of, tree_step, tree_value, tree_in_scope}
-use Rattle.cb_model.specs.Equations.{Item, Pair, Part, PartHolds, Holds, item_in_scope, Sat, SolvedAt, Solvable, Meets, Table, ReadsBelow, Tabled, TableBit, TableWord, TableInt, TableName, Tableds, NoTabled, OneTabled, at, all_at, Substitution, valued, Solves, TabledBelow, AllBelow, ReadsOnly}
+use Rattle.cb_model.specs.Bits.{Bits, AgreeBelow, Each}
+use Rattle.cb_model.specs.Circuits.{Outputs}
+use Rattle.cb_model.specs.Values.{Ground, Bit, Word, Int, Name, Grounds, Last, More, grounds, Sorts, Fits, FitAll, World, Valuation, IsValuation, expr_value, tail_of, tree_step, tree_value}
+use Rattle.cb_model.specs.Equations.{Item, Pair, Part, Holds, Sat, SolvedAt, Solvable, Meets, Table, ReadsBelow, Tabled, TableBit, TableWord, TableInt, TableName, Tableds, NoTabled, OneTabled, at, all_at, Substitution, valued, Solves, TabledBelow, AllBelow, ReadsOnly}
 use Rattle.cb_laws.specs.Laws.{InScope, SolvableInAlgebra}
 use Rattle.cb_laws.proofs.DependsTrees.{agree_self, items_depend}
-use Rattle.cb_laws.proofs.Decided.{and_true, agree_first, trimmed, same_trimmed}
+use Rattle.cb_laws.proofs.Decided.{agree_first, trimmed, same_trimmed}
 
 -- ---- a value with the form of the first and the bits of the second
 

@@ -1,8 +1,7 @@
 -- What can be decided.
-use Rattle.std.proofs.Common.{◌≡◌, ◌⊎◌, inl, inr, ◌↔◌, ℕ, zero, suc, Bool, true, false, List, [], ◌∷◌, length, map, refl, sym, ◌∙◌, ap, arith, take, ℤ, pos, negsuc}
+use Rattle.std.proofs.Common.{◌≡◌, ◌⊎◌, inl, inr, ◌↔◌, ℕ, zero, suc, Bool, true, false, List, [], ◌∷◌, length, refl, sym, ◌∙◌, ap, arith, take, ℤ, pos, negsuc}
 use Rattle.std.proofs.lemmas.Bool.{cases_eq}
 use Rattle.cb_model.specs.declared.Circuit.{Circuit}
-use Rattle.cb_model.specs.declared.Gate.{Gate}
 use Rattle.cb_model.specs.Bits.{Each}
 use Rattle.cb_model.specs.Circuits.{GateHolds, Consistent}
 
@@ -74,6 +73,23 @@ pub consistent : (c : Circuit) (input v : List Bool) → length v ≡ c.nets →
 consistent c input v e =
     equal_to ((λ h. (h.inputs, h.gates)), λ h. record { every_net = e; inputs = h.0; gates = h.1 })
     (both (same_bits (take c.inputs v) input) (each (GateHolds v) (λ g. same_bit _ _) c.gates))
+
+pub implied : {P Q : Type 0} → Decision P → Decision Q → Decision (P → Q)
+implied (inr n) d = inl (λ p. absurd (n p))
+implied (inl p) (inl q) = inl (λ x. q)
+implied (inl p) (inr n) = inr (λ f. n (f p))
+
+-- each list of n bits has the property
+pub every_row : (n : ℕ) (P : List Bool → Type 0) → ((xs : List Bool) → Decision (P xs)) → Decision ((xs : List Bool) → length xs ≡ n → P xs)
+every_row n P d = step (search_bits n (λ xs. P xs → ⊥) (λ xs. negated (d xs)))
+  where
+    step : Decision (Found n (λ xs. P xs → ⊥)) → Decision ((xs : List Bool) → length xs ≡ n → P xs)
+    step (inl f) = inr (λ h. f.1.1 (h f.0 f.1.0))
+    step (inr never) = inl (λ xs e. at xs e (d xs))
+      where
+        at : (xs : List Bool) → length xs ≡ n → Decision (P xs) → P xs
+        at xs e (inl p) = p
+        at xs e (inr m) = absurd (never (xs, (e, m)))
 
 -- ---- integers
 

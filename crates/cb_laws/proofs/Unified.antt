@@ -6,10 +6,10 @@ use Rattle.cb_model.specs.declared.Expr.{Expr}
 use Rattle.cb_model.specs.Bits.{Each}
 use Rattle.cb_model.specs.Values.{Sorts}
 use Rattle.cb_laws.proofs.Tables.{zero_fits}
-use Rattle.cb_laws.proofs.Decided.{and_true, or_false}
-use Rattle.cb_laws.proofs.Search.{one_int}
-use Rattle.cb_laws.proofs.Codes.{Mark, BusEnd, ArgumentsEnd, Number, Called, Unknown, ABus, ATerm, Code, Truth, Marked, Join, Form, Open, Formula, Fixed, Both, Truths, Choice, value, value_same, Parts, filled, chosen, value_filled, same, same_is, same_self, one, one_here, one_other, one_chosen, value_one, stands, not_there, no_cycle, CodeFits, sort_of, AreFit}
+use Rattle.cb_laws.proofs.Codes.{Mark, BusEnd, ArgumentsEnd, Number, Called, Unknown, ABus, ATerm, Code, Truth, Marked, Join, Form, Open, Formula, Fixed, Both, Truths, Choice, value, Parts, filled, chosen, value_filled, same, same_is, same_self, one, one_here, one_other, one_chosen, value_one, stands, not_there, no_cycle, CodeFits, sort_of, AreFit}
 use Rattle.cb_laws.proofs.CodeSorts.{code_fits, stays_fit}
+use Rattle.cb_laws.proofs.Decided.{and_true, both_true, or_false}
+use Rattle.cb_laws.proofs.Search.{one_int}
 
 -- ---- lists of unknowns
 
@@ -61,10 +61,6 @@ inside ys (Open x) = has ys x
 inside ys (Formula e) = true
 inside ys (Fixed m) = true
 inside ys (Both s t) = inside ys s && inside ys t
-
-both_true : (x y : Bool) → x ≡ true → y ≡ true → (x && y) ≡ true
-both_true true y h k = k
-both_true false y h k = absurd (cc)
 
 inside_without : (x : Unknown) (ys : List Unknown) (t : Form) → stands x t ≡ false → inside ys t ≡ true → inside (without x ys) t ≡ true
 inside_without x ys (Open z) e h = has_without x z ys e h
@@ -121,15 +117,15 @@ replaced x u ps = map (λ p. (filled (one x u) p.0, filled (one x u) p.1)) ps
 
 -- ---- steps
 
-abbrev first_of : Code → Code
+abbrev pub first_of : Code → Code
 first_of (Join c d) = c
 first_of c = c
 
-abbrev second_of : Code → Code
+abbrev pub second_of : Code → Code
 second_of (Join c d) = d
 second_of c = c
 
-abbrev mark_in : Code → Mark
+abbrev pub mark_in : Code → Mark
 mark_in (Marked m) = m
 mark_in c = BusEnd
 
@@ -141,9 +137,27 @@ abbrev called_in : Mark → ℕ
 called_in (Called n) = n
 called_in m = 0
 
-abbrev truth_in : Code → Bool
+abbrev pub truth_in : Code → Bool
 truth_in (Truth x) = x
 truth_in _ = false
+
+pub one_mark : (m n : Mark) → (m ≡ n) ⊎ (m ≡ n → ⊥)
+one_mark BusEnd BusEnd = inl refl
+one_mark BusEnd ArgumentsEnd = inr (λ e. cc)
+one_mark BusEnd (Number z) = inr (λ e. cc)
+one_mark BusEnd (Called n) = inr (λ e. cc)
+one_mark ArgumentsEnd BusEnd = inr (λ e. cc)
+one_mark ArgumentsEnd ArgumentsEnd = inl refl
+one_mark ArgumentsEnd (Number z) = inr (λ e. cc)
+one_mark ArgumentsEnd (Called n) = inr (λ e. cc)
+one_mark (Number i) BusEnd = inr (λ e. cc)
+one_mark (Number i) ArgumentsEnd = inr (λ e. cc)
+one_mark (Number i) (Number z) = elim (one_int i z) [ inl e ↦ inl (ap Number e) | inr n ↦ inr (λ e. n (ap number_in e)) ]
+one_mark (Number i) (Called n) = inr (λ e. cc)
+one_mark (Called k) BusEnd = inr (λ e. cc)
+one_mark (Called k) ArgumentsEnd = inr (λ e. cc)
+one_mark (Called k) (Number z) = inr (λ e. cc)
+one_mark (Called k) (Called n) = elim (cases_eq k n) [ inl e ↦ inl (ap Called e) | inr f ↦ inr (λ e. f (ap called_in e)) ]
 
 -- forms in which one unknown more is replaced
 abbrev also : Parts → Unknown → Form → Parts
@@ -227,24 +241,6 @@ module _ (t : Sorts) where
     refuse never = inr (λ f b h e. never (stays_fit t f (λ e. false) b plain h plain_fit (sort_of x) u (subst (CodeFits t (sort_of x)) e.0 (h x))))
 
   -- ---- the loop
-
-  one_mark : (m n : Mark) → (m ≡ n) ⊎ (m ≡ n → ⊥)
-  one_mark BusEnd BusEnd = inl refl
-  one_mark BusEnd ArgumentsEnd = inr (λ e. cc)
-  one_mark BusEnd (Number z) = inr (λ e. cc)
-  one_mark BusEnd (Called n) = inr (λ e. cc)
-  one_mark ArgumentsEnd BusEnd = inr (λ e. cc)
-  one_mark ArgumentsEnd ArgumentsEnd = inl refl
-  one_mark ArgumentsEnd (Number z) = inr (λ e. cc)
-  one_mark ArgumentsEnd (Called n) = inr (λ e. cc)
-  one_mark (Number i) BusEnd = inr (λ e. cc)
-  one_mark (Number i) ArgumentsEnd = inr (λ e. cc)
-  one_mark (Number i) (Number z) = elim (one_int i z) [ inl e ↦ inl (ap Number e) | inr n ↦ inr (λ e. n (ap number_in e)) ]
-  one_mark (Number i) (Called n) = inr (λ e. cc)
-  one_mark (Called k) BusEnd = inr (λ e. cc)
-  one_mark (Called k) ArgumentsEnd = inr (λ e. cc)
-  one_mark (Called k) (Number z) = inr (λ e. cc)
-  one_mark (Called k) (Called n) = elim (cases_eq k n) [ inl e ↦ inl (ap Called e) | inr f ↦ inr (λ e. f (ap called_in e)) ]
 
   -- how much the equations say
   abbrev size : Form → ℕ

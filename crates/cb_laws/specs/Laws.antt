@@ -89,6 +89,10 @@ Decided = (w : World) (c v : ℕ) (es : List Item) → InScope c v es → Solvab
 abbrev pub ReadyStays : Type 0
 ReadyStays = (p : Program) (es more : List Item) (g : Goal) → Ready p es g → Ready p (es ++ more) g
 
+-- a goal is ready or not, where the equations are solvable
+abbrev pub ReadyDecided : Type 0
+ReadyDecided = (p : Program) (v : ℕ) (es : List Item) (g : Goal) → InScope p.constants v es → Solvable p.world es → Ready p es g ⊎ (Ready p es g → ⊥)
+
 -- a step has one outcome
 abbrev pub StepDetermined : Type 0
 StepDetermined = (p : Program) (e : Entry) (s s₁ s₂ : List Entry) (v₁ v₂ : Option Branch) → Step p e s s₁ v₁ → Step p e s s₂ v₂ → (s₁ ≡ s₂) × (v₁ ≡ v₂)
@@ -129,7 +133,11 @@ PrintedDenote = (p : Program) (q : Query) (budget used : ℕ) (ns : List Note) (
     Contains (printed_of ns) b → (terms shape : List Tree) (a : Bits) → Admitted p.world a → IsShape p.world b.items terms shape → (m : ℕ) →
     Denotes (Gives p.world b.items terms shape a) m
 
--- the shape of terms under solvable equations is one
+-- solvable equations have a shape for all terms
+abbrev pub HasShape : Type 0
+HasShape = (w : World) (c v : ℕ) (es : List Item) (terms : List Tree) → InScope c v es → Solvable w es → (shape : List Tree) × IsShape w es terms shape
+
+-- and it is one
 abbrev pub ShapeIsOne : Type 0
 ShapeIsOne = (w : World) (es : List Item) (terms s s' : List Tree) → Solvable w es → IsShape w es terms s → IsShape w es terms s' → s ≡ s'
 

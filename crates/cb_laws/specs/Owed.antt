@@ -1,27 +1,11 @@
 -- Laws of the definitions that are stated and not proved: no contract names them.
-use Rattle.std.specs.Prelude.{◌≡◌, ℕ, ◌+◌, ◌*◌, ◌≤◌, ◌⊎◌, List, length, Some, codes}
-use Rattle.cb_model.specs.declared.Tree.{Tree}
-use Rattle.cb_model.specs.declared.Goal.{Goal}
+use Rattle.std.specs.Prelude.{◌≡◌, ℕ, ◌+◌, ◌*◌, ◌≤◌, List, length, Some, codes}
 use Rattle.cb_model.specs.declared.Outcome.{Outcome}
 use Rattle.cb_model.specs.Text.{Text, IsPrefix}
-use Rattle.cb_model.specs.Values.{World}
 use Rattle.cb_model.specs.Circuits.{Module, circuit_of, flat_named, Agrees, BySpec}
-use Rattle.cb_model.specs.Equations.{Item, Solvable}
-use Rattle.cb_model.specs.Program.{Program}
-use Rattle.cb_model.specs.Derivation.{Ready}
-use Rattle.cb_model.specs.Answers.{IsShape}
 use Rattle.cb_model.specs.Facts.{Spec}
 use Rattle.cb_model.specs.Adder.{adder_text}
 use Rattle.cb_model.specs.Output.{Loaded, IsLoaded, module_named, spec_named, Output, OutputBegins}
-use Rattle.cb_laws.specs.Laws.{InScope}
-
--- a goal is ready or not, where the equations are solvable
-abbrev pub ReadyDecided : Type 0
-ReadyDecided = (p : Program) (v : ℕ) (es : List Item) (g : Goal) → InScope p.constants v es → Solvable p.world es → Ready p es g ⊎ (Ready p es g → ⊥)
-
--- solvable equations have a shape for all terms
-abbrev pub HasShape : Type 0
-HasShape = (w : World) (c v : ℕ) (es : List Item) (terms : List Tree) → InScope c v es → Solvable w es → (shape : List Tree) × IsShape w es terms shape
 
 -- the generated text is accepted, and its adder has these sizes and is right
 pub record AdderHolds (n : ℕ) : Type 0 where

@@ -1,7 +1,7 @@
 //! Laws of the definitions: each is the contract of a function that does nothing.
 #![tactic(auto)]
 
-ghost use Rattle.cb_laws.specs.Laws.{SolvableByTables, SolvableDecided, SolvableByTablesBelow, SolutionGivesValues, SolvableInAlgebra, Decided, ReadyStays, StepDetermined, RunDetermined, SameBeginning, SamePrints, PrintedAreSolvable, PrintedDenote, FormDenotes, DirectivesCount, ClausesFit, TreesFit, TreesInScope, ChainsHaveOperands, ShapeIsOne, LineIsOne, RoomIsOne, RoomOfNone, TokenLines, ReadingIsWritten, ClausesAreOne, QueriesAreOne, FactsAreOne};
+ghost use Rattle.cb_laws.specs.Laws.{SolvableByTables, SolvableDecided, SolvableByTablesBelow, SolutionGivesValues, SolvableInAlgebra, Decided, ReadyDecided, ReadyStays, StepDetermined, RunDetermined, SameBeginning, SamePrints, PrintedAreSolvable, PrintedDenote, FormDenotes, DirectivesCount, ClausesFit, TreesFit, TreesInScope, ChainsHaveOperands, HasShape, ShapeIsOne, LineIsOne, RoomIsOne, RoomOfNone, TokenLines, ReadingIsWritten, ClausesAreOne, QueriesAreOne, FactsAreOne};
 
 /// Boolean equations are solvable exactly where they have a solution in the algebra (Boole).
 pub fn solvable_by_tables()
@@ -33,6 +33,11 @@ pub fn solvable_in_algebra()
 /// Equations of all sorts and circuit items are solvable or refuted (unification: Robinson, 1965).
 pub fn items_decided()
     ensures { Decided }
+{}
+
+/// Where the equations are solvable, a goal is ready or not: each delay word holds or not, and a demon's rule matches or not.
+pub fn ready_decided()
+    ensures { ReadyDecided }
 {}
 
 /// A goal that is ready stays ready after more equations.
@@ -88,6 +93,11 @@ pub fn clauses_are_one()
 /// A list of tokens is read as one list of queries at most.
 pub fn queries_are_one()
     ensures { QueriesAreOne }
+{}
+
+/// Solvable equations have a shape for all terms.
+pub fn has_shape()
+    ensures { HasShape }
 {}
 
 /// The shape of terms under solvable equations is one.
