@@ -192,10 +192,11 @@ seen-leaves : (os : List Place) (v : Valuation) (front rest : List ℕ) → Agre
 seen-leaves os v front [] = tt
 seen-leaves os v front (s ∷ rest) =
     let e : (front ++ s ∷ []) ++ rest ≡ front ++ s ∷ rest = append_assoc front (s ∷ []) rest in
-    let n : length (front ++ s ∷ []) ≡ suc (length front) = let l = length-append front (s ∷ []) in omega arith in
-    (ap v.bits (get-behind front s rest),
-    subst (λ (x : ℕ). AgreeFrom (seen-at (front ++ s ∷ rest) os v) v x rest) n
-    (subst (λ (xs : List ℕ). AgreeFrom (seen-at xs os v) v (length (front ++ s ∷ [])) rest) e (seen-leaves os v (front ++ s ∷ []) rest)))
+    let n : length (front ++ s ∷ []) ≡ suc (length front) = let l = length-append front (s ∷ []) in omega arith in (
+      ap v.bits (get-behind front s rest),
+      subst (λ (x : ℕ). AgreeFrom (seen-at (front ++ s ∷ rest) os v) v x rest) n
+          (subst (λ (xs : List ℕ). AgreeFrom (seen-at xs os v) v (length (front ++ s ∷ [])) rest) e (seen-leaves os v (front ++ s ∷ []) rest)),
+    )
 
 get-place : (os : List Place) (x : Place) → has_place os x ≡ true → get_or os (place_from 0 os x) (sort.Bool, 0) ≡ x
 get-place os x h =
@@ -261,7 +262,7 @@ module _ (w : World) (es : List Item) (terms : List Tree) (ps : Plains) (point :
       let h = point a b m in
       let o = seen-at (all_leaves ps) (firsts [] (all_opens ps)) h.v in
       let e = values-numbered o h.v (firsts [] (all_opens ps)) 0 ps (seen-leaves (firsts [] (all_opens ps)) h.v [] (all_leaves ps))
-          (seen-places (all_leaves ps) (firsts [] (all_opens ps)) h.v (all_opens ps) (all_there (all_opens ps))) in
+      (seen-places (all_leaves ps) (firsts [] (all_opens ps)) h.v (all_opens ps) (all_there (all_opens ps))) in
       (o, (λ n. h.sorted _, grounds-same (values a b terms) (values a o (shape_of ps)) (h.is ∙ sym e ∙ sym (values_closed a o (numbered_all (firsts [] (all_opens ps)) 0 ps)))))
 
   pub free : (a : Bits) (b o o' : Valuation) → Meets w es a b → values a b terms ≡ values a o (shape_of ps) → IsValuation w o' → (b' : Valuation) × (Meets w es a b' × (values a b' terms ≡ values a (with_opens o o') (shape_of ps)))

@@ -119,9 +119,11 @@ in_order seen (x ∷ xs) = step (has_place seen x) (in_order seen xs) (in_order 
     step false i j e =
         let g = firsts_go_on (seen ++ x ∷ []) xs in
         let n : place_from 0 (firsts (seen ++ x ∷ []) xs) x ≡ length seen =
-          ap (λ (os : List Place). place_from 0 os x) (g.1 ∙ append_assoc seen (x ∷ []) g.0) ∙ place_new 0 seen g.0 x e ∙ omega arith in
-        inr (n ∙ sym (length-map seen (λ (y : Place). y.0)),
-        subst (λ (ss : List Sort). InOrder ss (renamed (firsts (seen ++ x ∷ []) xs) xs)) (map-append (λ (y : Place). y.0) seen (x ∷ [])) j)
+        ap (λ (os : List Place). place_from 0 os x) (g.1 ∙ append_assoc seen (x ∷ []) g.0) ∙ place_new 0 seen g.0 x e ∙ omega arith in
+        inr (
+          n ∙ sym (length-map seen (λ (y : Place). y.0)),
+          subst (λ (ss : List Sort). InOrder ss (renamed (firsts (seen ++ x ∷ []) xs) xs)) (map-append (λ (y : Place). y.0) seen (x ∷ [])) j,
+        )
 
 -- ---- each place is among the first appearances
 
