@@ -1,0 +1,4 @@
+pub mod Shapes
+pub mod Terms
+pub mod Tokens
+pub mod Walk
