@@ -7,3 +7,4 @@ pub mod Resting
 pub mod Stepping
 pub mod Wide
 pub mod Standing
+pub mod Texts

@@ -3,3 +3,4 @@ pub mod Terms
 pub mod Tokens
 pub mod Walk
 pub mod Laws
+pub mod Text

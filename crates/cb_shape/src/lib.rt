@@ -8,6 +8,7 @@ ghost use Rattle.cb_heap.specs.Heap.{IsHeap};
 ghost use Rattle.cb_shape.specs.Laws.{CellsAreTerms};
 ghost use Rattle.cb_shape.specs.Shapes.{ShapeFromPoints};
 ghost use Rattle.cb_shape.specs.Terms.{AreRoots};
+ghost use Rattle.cb_shape.specs.Text.{PiecesAreTheLine};
 ghost use Rattle.cb_shape.specs.Tokens.{Shows};
 
 mod walk;
@@ -79,4 +80,9 @@ pub fn shape_from_points()
 /// In a heap without cycles, whose cells fit a table of sorts, all cells are terms.
 pub fn cells_are_terms()
     ensures { CellsAreTerms }
+{}
+
+/// The pieces of an answer, one after another, are the line of its shape.
+pub fn pieces_are_the_line()
+    ensures { PiecesAreTheLine }
 {}
