@@ -6,3 +6,5 @@ pub mod Telling
 pub mod Resting
 pub mod Stepping
 pub mod Wide
+pub mod Standing
+pub mod Texts

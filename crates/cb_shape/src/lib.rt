@@ -5,8 +5,10 @@
 ghost use Rattle.std.specs.Prelude.{IfOk};
 ghost use Rattle.cb_laws.proofs.OpenTrees.{Plains};
 ghost use Rattle.cb_heap.specs.Heap.{IsHeap};
+ghost use Rattle.cb_shape.specs.Laws.{CellsAreTerms};
 ghost use Rattle.cb_shape.specs.Shapes.{ShapeFromPoints};
 ghost use Rattle.cb_shape.specs.Terms.{AreRoots};
+ghost use Rattle.cb_shape.specs.Text.{PiecesAreTheLine};
 ghost use Rattle.cb_shape.specs.Tokens.{Shows};
 
 mod walk;
@@ -73,4 +75,14 @@ pub fn shape(alloc: Global, heap: &Heap, roots: &[Ref]) -> Result<Option<Printed
 /// The terms that a state has for what an answer prints, renumbered, are the answer's shape.
 pub fn shape_from_points()
     ensures { ShapeFromPoints }
+{}
+
+/// In a heap without cycles, whose cells fit a table of sorts, all cells are terms.
+pub fn cells_are_terms()
+    ensures { CellsAreTerms }
+{}
+
+/// The pieces of an answer, one after another, are the line of its shape.
+pub fn pieces_are_the_line()
+    ensures { PiecesAreTheLine }
 {}
