@@ -11,12 +11,10 @@ ghost use Rattle.cb_boole.specs.Elimination.{Function, both, rest};
 ghost use Rattle.cb_solution.specs.Solution.{AreRests, IsFalling, IsImage, IsSolution, HasRest, ImageRoom, RestsRoom, SolutionRoom, has_refused};
 ghost use Rattle.cb_solution.specs.Parts.{AreParts, AreStages, Solves, StagesRoom};
 
-mod pairs;
 mod parts;
 
 use cb_dd::{Node, Stop};
 use cb_ops::Ops;
-pub use pairs::differ;
 pub use parts::solution_of_parts;
 use std::alloc::Global;
 
