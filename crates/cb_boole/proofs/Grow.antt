@@ -1,5 +1,5 @@
 -- New variables, new slots, and the nodes that meet the store's condition.
-use Rattle.std.proofs.Common.{◌≡◌, ◌≢◌, ◌⊎◌, inl, inr, ℕ, ◌<◌, Bool, not, Option, Some, None, cond, refl, sym, ap, ap₂, ◌∙◌, subst, eq-eqb}
+use Rattle.std.proofs.Common.{◌≡◌, ◌≢◌, ◌⊎◌, inl, inr, ℕ, ◌<◌, Bool, Option, Some, None, cond, refl, sym, ap, ap₂, ◌∙◌, subst, eq-eqb}
 use Rattle.std.proofs.lemmas.Bool.{ne_eqb, cases_eq}
 use Rattle.cb_model.specs.Bits.{Bits, put}
 use Rattle.cb_boole.specs.Elimination.{Function}
@@ -21,9 +21,6 @@ fit_constant S good k h = record {
   only = λ p q alike. alike k (inl h);
   kept = λ p. point_other S.stands p (λ x. S.values x p) k (constant_other S good k h);
 }
-
-pub fit_not : (S : View) (f : Function) → IsFit S f → IsFit S (λ p. not (f p))
-fit_not S f a = record { only = λ p q h. ap not (a.only p q h); kept = λ p. ap not (a.kept p) }
 
 pub fit_two : (S : View) (op : Bool → Bool → Bool) (f g : Function) → IsFit S f → IsFit S g → IsFit S (λ p. op (f p) (g p))
 fit_two S op f g a b = record {

@@ -3,9 +3,7 @@ pub mod One
 pub mod Chain
 pub mod Only
 pub mod Unify
-pub mod History
 pub mod Grow
-pub mod Known
 pub mod Bounds
 pub mod Laws
 pub mod Picking

@@ -20,6 +20,3 @@ put_ext p q l b here away = fun_ext (λ k. put_ext_at p q l b here away k (cases
 
 pub put_own : (p : Bits) (l : ℕ) → put l (p l) p ≡ p
 put_own p l = put_ext p p l (p l) refl (λ k h. refl)
-
-pub put_again : (p : Bits) (l : ℕ) (b c : Bool) → put l c (put l b p) ≡ put l c p
-put_again p l b c = put_ext (put l b p) (put l c p) l c (sym (put_same p l c)) (λ k h. put_other p l b k h ∙ sym (put_other p l c k h))

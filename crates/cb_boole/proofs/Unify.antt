@@ -61,14 +61,6 @@ left_into S good ls f fit a b r h =
     let e : solved ls f r.at ≡ r.at = solved_keeps ls f r.at (sym (at_point S good f fit a b r) ∙ h) in
     record { at = r.at; agrees = r.agrees; gives = λ x v. ap (S.values x) e ∙ r.gives x v }
 
--- there is a solution at every assignment
-pub is_solvable : (S : View) → IsGood S → (ls : List ℕ) → AreFree S ls → (f : Function) → IsFit S f → ((p : Bits) → rest ls f p ≡ false) →
-    (a : Bits) → (b : ℕ → Bool) × InRange S a b × (f (point S.stands a b) ≡ false)
-is_solvable S good ls are f fit none a =
-    let b : ℕ → Bool = λ x. S.values x (solved ls f a) in
-    let w = left_from S good ls are f fit none a b (record { at = a; agrees = λ k h. refl; gives = λ x v. refl }) in
-    (b, w.0, w.1)
-
 -- after `Ok(false)`: where something is left, no pair of the range is a solution
 pub not_solvable : (S : View) → IsGood S → (ls : List ℕ) → (f : Function) → IsFit S f → DependsOnly (IsHeld S.constants ls) f →
     (p : Bits) → rest ls f p ≡ true → (b : ℕ → Bool) → InRange S p b → f (point S.stands p b) ≡ true

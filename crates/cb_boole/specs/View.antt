@@ -1,6 +1,6 @@
 -- What contracts see of a store of Boolean variables, and its range.
-use Rattle.std.specs.Prelude.{◌≡◌, ◌≢◌, ℕ, ◌<◌, Bool, List, Option, Some, None, ◌⊎◌, cond, eqb}
-use Rattle.cb_model.specs.Bits.{Bits, put}
+use Rattle.std.specs.Prelude.{◌≡◌, ℕ, ◌<◌, Bool, List, Option, Some, None, ◌⊎◌, cond, eqb}
+use Rattle.cb_model.specs.Bits.{Bits}
 use Rattle.cb_boole.specs.Elimination.{Function, solved, DependsOnly}
 
 -- constants 0 up to a number, for each free level the variable that it stands for (a slot's number),
@@ -77,9 +77,3 @@ with_slot S x f = record {
   IsVariable = S.IsVariable;
   values = with_at S.values x f;
 }
-
--- the slot is free, and its level is in no other slot
-pub record IsOwn (S : View) (l x : ℕ) : Type 0 where
-  pub stands : S.stands l ≡ Some x
-  pub free : (p : Bits) → S.values x p ≡ p l
-  pub alone : (y : ℕ) → y ≢ x → (p : Bits) (b : Bool) → S.values y (put l b p) ≡ S.values y p

@@ -27,7 +27,7 @@ use Rattle.cb_elim.specs.Equation.{AreGeneral, AreMoved, IsElimination, IsGenera
 use Rattle.cb_elim.proofs.General.{general-at}
 use Rattle.cb_ops.proofs.Ite.{Grows-then}
 use Rattle.cb_ops.specs.Substitute.{Images}
-use Rattle.cb_elim.specs.Unified.{IsSolved, IsSolutionOf, HasNone, HasSameValues, OnlyValues, IsMostGeneral, IsReproductive}
+use Rattle.cb_elim.specs.Unified.{IsSolved, IsSolutionOf, IsUnified, HasNone, HasSameValues, OnlyValues, IsMostGeneral, IsReproductive}
 use Rattle.cb_elim.specs.Moments.{KeepsMoments, changes_from, undone}
 use Rattle.cb_elim.proofs.Views.{with_values, argument-fulls, only-nodes, store-fulls}
 use Rattle.cb_elim.proofs.Back.{keeps}
@@ -247,20 +247,23 @@ module _ (now s : Seen) (is : s ≡ now) (st : IsStore now) (f g : ℕ) (a : IsA
   trail-is : new.trail ≡ s.trail ++ changes_from 0 s.slots new.slots
   trail-is = v.trail ∙ ap (λ cs. s.trail ++ cs) v.listed
 
-  pub put-solved : IsSolved (view_of now) (view_of new) (function_of now.nodes.triples f) (function_of now.nodes.triples g)
+  put-solved : IsSolved (view_of now) (view_of new) (function_of now.nodes.triples f) (function_of now.nodes.triples g)
   put-solved = subst (λ (o : Seen). IsSolved (view_of now) (view_of o) (function_of now.nodes.triples f) (function_of now.nodes.triples g)) new-is (solve-solved now s is st f g a b new.slots new.trail new.nodes general)
 
-  pub put-solution : IsSolutionOf (view_of now) (view_of new) (function_of now.nodes.triples f) (function_of now.nodes.triples g)
+  put-solution : IsSolutionOf (view_of now) (view_of new) (function_of now.nodes.triples f) (function_of now.nodes.triples g)
   put-solution = subst (λ (o : Seen). IsSolutionOf (view_of now) (view_of o) (function_of now.nodes.triples f) (function_of now.nodes.triples g)) new-is (solve-solution now s is st f g a b new.slots new.trail new.nodes general)
 
-  pub put-same : HasSameValues (view_of now) (view_of new)
+  put-same : HasSameValues (view_of now) (view_of new)
   put-same = subst (λ (o : Seen). HasSameValues (view_of now) (view_of o)) new-is (solve-same now s is st f g a b new.slots new.trail new.nodes general)
 
   pub put-store : Each (λ c. IsNode new.nodes.triples c.value.0) new.trail → IsStore new
   put-store changed = subst IsStore new-is (solve-store now s is st f g a b new.slots new.trail new.nodes general trail-is changed)
 
-  pub put-values : OnlyValues now new
+  put-values : OnlyValues now new
   put-values = subst (λ (o : Seen). OnlyValues now o) new-is (solve-values now s is st f g a b new.slots new.trail new.nodes general trail-is (Grows-then s.nodes t new.nodes st' v.nodes))
+
+  pub put-unified : IsUnified now new f g
+  put-unified = record { solved = put-solved; solution = put-solution; values = put-values; slots = put-same }
 
 -- nodes were added twice
 pub only-then : (now s : Seen) (is : s ≡ now) (st : IsStore now) (t : Store) → Grows s.nodes t → (new : Seen) → OnlyNodes (record s { nodes = t }) new → OnlyNodes now new
@@ -331,13 +334,13 @@ nodes-cut now s is st t u g n e cut budget fulls =
     cut-before now (record s { nodes = t }) (record s { nodes = t }) refl (only-nodes now s is st t g) n (e ∙ ap (λ (o : Seen). length o.nodes.triples) is) u cut budget fulls
 
 -- an equation of a node with itself
-pub same-solved : (s : Seen) (f g : ℕ) → f ≡ g → IsSolved (view_of s) (view_of s) (function_of s.nodes.triples f) (function_of s.nodes.triples g)
+same-solved : (s : Seen) (f g : ℕ) → f ≡ g → IsSolved (view_of s) (view_of s) (function_of s.nodes.triples f) (function_of s.nodes.triples g)
 same-solved s f g e = record {
   left = λ a b. ((λ r. (r, ap (λ n. function_of s.nodes.triples n (point (view_of s).stands a b)) e)), (λ w. w.0));
   some = λ a. ((λ x. (view_of s).values x a), record { at = a; agrees = λ k h. refl; gives = λ x v. refl });
 }
 
-pub same-solution : (s : Seen) (f g : ℕ) → f ≡ g → IsSolutionOf (view_of s) (view_of s) (function_of s.nodes.triples f) (function_of s.nodes.triples g)
+same-solution : (s : Seen) (f g : ℕ) → f ≡ g → IsSolutionOf (view_of s) (view_of s) (function_of s.nodes.triples f) (function_of s.nodes.triples g)
 unfolding rest solved
 same-solution s f g e = record {
   levels = [];
@@ -369,6 +372,9 @@ same-values s = record {
 
 pub same-slots : (s : Seen) → HasSameValues (view_of s) (view_of s)
 same-slots s a b r x = refl
+
+pub same-node : (s : Seen) (f g : ℕ) → f ≡ g → IsUnified s s f g
+same-node s f g e = record { solved = same-solved s f g e; solution = same-solution s f g e; values = same-values s; slots = same-slots s }
 
 -- ---- what the invariant gives
 

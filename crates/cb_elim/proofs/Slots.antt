@@ -16,7 +16,7 @@ use Rattle.cb_boole.proofs.Form.{form_variables, form_with_slot, form_with_varia
 use Rattle.cb_boole.proofs.Grow.{with_same, with_other, good_with_slot, fit_with_slot, good_with_variable, fit_with_variable, good_variables, range_new, range_old}
 use Rattle.cb_elim.specs.declared.Free.{Free}
 use Rattle.cb_elim.specs.declared.Change.{Change}
-use Rattle.cb_elim.specs.Store.{Seen, AddsSlot, IsStore, IsArgument, AreThere, IsVariableOf, IsNewVariable, HasSameRange, stands_in, value_in, view_of}
+use Rattle.cb_elim.specs.Store.{Seen, AddsSlot, AddsVariable, IsStore, IsArgument, AreThere, IsVariableOf, IsNewVariable, HasSameRange, KeepsArguments, stands_in, value_in, view_of}
 use Rattle.cb_elim.specs.Moments.{KeepsMoments}
 use Rattle.cb_elim.proofs.Views.{with_values, store-still, store-fulls, view-still, argument-still}
 use Rattle.cb_elim.proofs.Back.{keeps}
@@ -302,18 +302,18 @@ module _ (now s : Seen) (is : s ≡ now) (st : IsStore now) (t : Store) (g : Gro
   pub variable-store : IsStore (record { constants = s.constants; drawn = s.drawn + 1; free = free; slots = slots; trail = s.trail; nodes = t })
   variable-store = subst IsStore new-is (store-new (record s { nodes = t }) n grown-store w own)
 
-  pub variable-range : HasSameRange (view_of now) (view_of (record { constants = s.constants; drawn = s.drawn + 1; free = free; slots = slots; trail = s.trail; nodes = t }))
+  variable-range : HasSameRange (view_of now) (view_of (record { constants = s.constants; drawn = s.drawn + 1; free = free; slots = slots; trail = s.trail; nodes = t }))
   variable-range = subst (λ (o : Seen). HasSameRange (view_of now) (view_of o)) new-is
       (subst (λ (S : View). HasSameRange S (view_of (with_new (record s { nodes = t }) n))) (view-still s t g inside.nodes ∙ ap view_of is)
       (range-new (record s { nodes = t }) n grown-store w own))
 
-  pub variable-adding : AddsSlot (view_of now) (view_of (record { constants = s.constants; drawn = s.drawn + 1; free = free; slots = slots; trail = s.trail; nodes = t })) (length now.slots) (λ a w. w (length now.slots))
+  variable-adding : AddsSlot (view_of now) (view_of (record { constants = s.constants; drawn = s.drawn + 1; free = free; slots = slots; trail = s.trail; nodes = t })) (length now.slots) (λ a w. w (length now.slots))
   variable-adding = subst (λ (o : Seen). AddsSlot (view_of now) (view_of o) (length now.slots) (λ a w. w (length now.slots))) new-is
       (subst (λ k. AddsSlot (view_of now) (view_of (with_new (record s { nodes = t }) n)) k (λ a w. w k)) (ap (λ (o : Seen). length o.slots) is)
       (subst (λ (S : View). AddsSlot S (view_of (with_new (record s { nodes = t }) n)) (length s.slots) (λ a w. w (length s.slots))) (view-still s t g inside.nodes ∙ ap view_of is)
       (new-adds (record s { nodes = t }) n grown-store w own)))
 
-  pub variable-arguments : (m : ℕ) → IsArgument now m → IsArgument (record { constants = s.constants; drawn = s.drawn + 1; free = free; slots = slots; trail = s.trail; nodes = t }) m
+  variable-arguments : (m : ℕ) → IsArgument now m → IsArgument (record { constants = s.constants; drawn = s.drawn + 1; free = free; slots = slots; trail = s.trail; nodes = t }) m
   variable-arguments m a = subst (λ (o : Seen). IsArgument o m) new-is
       (new-argument (record s { nodes = t }) n grown-store w own m (argument-still s t inside g m (subst (λ (o : Seen). IsArgument o m) (sym is) a)))
 
@@ -328,6 +328,9 @@ module _ (now s : Seen) (is : s ≡ now) (st : IsStore now) (t : Store) (g : Gro
     constants = refl;
     trail = refl;
     nodes = g;
+    range = subst (λ (o : Seen). HasSameRange (view_of o) (view_of (record { constants = s.constants; drawn = s.drawn + 1; free = free; slots = slots; trail = s.trail; nodes = t }))) (sym is) variable-range;
+    stays = subst (λ (o : Seen). AddsVariable o (record { constants = s.constants; drawn = s.drawn + 1; free = free; slots = slots; trail = s.trail; nodes = t })) (sym is) variable-adding;
+    arguments = subst (λ (o : Seen). KeepsArguments o (record { constants = s.constants; drawn = s.drawn + 1; free = free; slots = slots; trail = s.trail; nodes = t })) (sym is) variable-arguments;
   })
 
 -- nodes that were made are cut away again

@@ -3,10 +3,10 @@ use Rattle.std.specs.Prelude.{◌≡◌, ℕ, ◌+◌, ◌-◌, ◌*◌, ◌^◌
 use Rattle.std.specs.Option.{option_map_or}
 use Rattle.cb_model.specs.declared.Expr.{Expr}
 use Rattle.cb_model.specs.Bits.{Bits, xor, all_of, some_of, odd_of}
-use Rattle.cb_model.specs.Values.{in_scope}
+use Rattle.cb_model.specs.Values.{expr_value, in_scope}
 use Rattle.cb_model.specs.Room.{expr_size}
 use Rattle.cb_model.specs.Outside.{Rose}
-use Rattle.cb_dd.specs.Diagram.{Store}
+use Rattle.cb_dd.specs.Diagram.{Store, function_of}
 use Rattle.cb_ops.specs.Support.{IsListed}
 use Rattle.cb_dd.specs.declared.Triple.{Triple}
 use Rattle.cb_dd.specs.declared.Node.{Node}
@@ -20,6 +20,18 @@ use Rattle.cb_elim.specs.Equation.{DependEach}
 abbrev pub variable_bits : List Triple → List Node → List (Option Slot) → Bits → Bits
 variable_bits ts ns vars p = λ n. option_map_or (λ s. value_in ts ns s.0 p) (slice_index_or vars n None) false
 
+-- the node has the bit of a variable's slot
+abbrev pub IsBitOf : List Triple → List Node → List (Option Slot) → ℕ → ℕ → Type 0
+IsBitOf ts ns vars v n = (p : Bits) → function_of ts n p ≡ variable_bits ts ns vars p v
+
+-- the node has the value of the expression over the slots as they were
+abbrev pub IsValueOf : List Triple → List Triple → List Node → List (Option Slot) → Expr → ℕ → Type 0
+IsValueOf old new ns vars e n = (p : Bits) → function_of new n p ≡ expr_value p (variable_bits old ns vars p) e
+
+-- the same of a store
+abbrev pub HasValueOf : Seen → Seen → List (Option Slot) → Expr → ℕ → Type 0
+HasValueOf old new vars e n = IsValueOf old.nodes.triples new.nodes.triples old.slots vars e n
+
 -- the value of a connective
 abbrev pub operator_value : Operator → Bool → Bool → Bool
 operator_value operator.And x y = x && y
@@ -31,6 +43,14 @@ abbrev pub chain_value : Operator → List Bool → Bool
 chain_value operator.And xs = all_of xs
 chain_value operator.Or xs = some_of xs
 chain_value operator.Xor xs = odd_of xs
+
+-- the node is the connective of two nodes
+abbrev pub IsApplied : List Triple → List Triple → Operator → ℕ → ℕ → ℕ → Type 0
+IsApplied old new op f g n = (p : Bits) → function_of new n p ≡ operator_value op (function_of old f p) (function_of old g p)
+
+-- the node has the value of the connective of expressions over the slots as they were
+abbrev pub IsChainOf : List Triple → List Triple → List Node → List (Option Slot) → Operator → List Expr → ℕ → Type 0
+IsChainOf old new ns vars op es n = (p : Bits) → function_of new n p ≡ chain_value op (map (expr_value p (variable_bits old ns vars p)) es)
 
 -- the list has the levels of the constants, c of them, and those on which the slots' values depend
 pub record AreLevels (ts : List Triple) (c : ℕ) (ns : List Node) (ls : List ℕ) : Type 0 where

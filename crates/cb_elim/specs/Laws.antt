@@ -6,8 +6,9 @@ use Rattle.cb_model.specs.Values.{World, expr_value}
 use Rattle.cb_model.specs.Equations.{Solvable, Refuted}
 use Rattle.cb_laws.specs.Laws.{Equal, pair_item}
 use Rattle.cb_dd.specs.Diagram.{Store, IsNode, function_of}
+use Rattle.cb_ops.specs.Ops.{IsIte}
 use Rattle.cb_boole.specs.View.{InRange, point}
-use Rattle.cb_elim.specs.Store.{Seen, view_of}
+use Rattle.cb_elim.specs.Store.{Seen, IsArgument, view_of, with_nodes}
 use Rattle.cb_elim.specs.Unified.{HasNone, IsSolved}
 
 -- the range is exactly the pairs that satisfy the equations, each variable numbered as its slot
@@ -46,3 +47,12 @@ live_levels s = levels_below s.constants ++ map (λ f. f.level) s.free
 pub record IsDecidedBy (old new : Store) (fs : List ℕ) (n : ℕ) : Type 0 where
   pub node : IsNode new.triples n
   pub decided : (p q : Bits) → Each (λ f. function_of old.triples f p ≡ function_of old.triples f q) fs → function_of new.triples n p ≡ function_of new.triples n q
+
+-- a node that is a function of nodes which may be handed to the store may be handed to it, with the nodes that were added
+abbrev pub MayBeDecided : Seen → Store → Type 0
+MayBeDecided s t = (fs : List ℕ) (n : ℕ) → Each (IsArgument s) fs → IsDecidedBy s.nodes t fs n → IsArgument (with_nodes t s) n
+
+-- so may "if f, g, else h"
+abbrev pub MayBeChosen : Seen → Store → Type 0
+MayBeChosen s t =
+    (f g h n : ℕ) → Each (IsArgument s) (f ∷ g ∷ h ∷ []) → IsNode t.triples n → IsIte s.nodes.triples t.triples f g h n → IsArgument (with_nodes t s) n

@@ -52,6 +52,14 @@ pub record KeepsMoments (old new : Seen) : Type 0 where
   pub moments : (m : Moment) → IsMoment m old → IsMoment m new
   pub same : (m : Moment) → IsMoment m old → reverted m new ≡ with_fulls new.nodes.fulls (reverted m old)
 
+-- A store that is taken back to the moment of another, whose moments it kept, is that other, but for the count of refusals.
+abbrev pub GivesBack : Moment → Seen → Seen → Type 0
+GivesBack m old new = (s : Seen) → IsStore s → m ≡ moment_of s → KeepsMoments s old → new ≡ with_fulls old.nodes.fulls s
+
+-- then it keeps that other's moments
+abbrev pub StillKeeps : Moment → Seen → Seen → Type 0
+StillKeeps m old new = (s : Seen) → IsStore s → m ≡ moment_of s → KeepsMoments s old → KeepsMoments s new
+
 -- the slots rewritten since the moment, in order
 abbrev pub rewritten_since : Moment → Seen → List ℕ
 rewritten_since m s = map (λ c. c.slot) (drop m.trail s.trail)
@@ -59,6 +67,10 @@ rewritten_since m s = map (λ c. c.slot) (drop m.trail s.trail)
 -- the slot's value at the moment, or for a later slot when it was made
 abbrev pub value_since : Moment → Seen → ℕ → Option Node
 value_since m s x = slice_get (undone (drop m.trail s.trail) s.slots) x
+
+-- the slot's value is another node than it was
+abbrev pub HasChanged : Moment → Seen → ℕ → Type 0
+HasChanged m s x = value_since m s x ≡ slice_get s.slots x → ⊥
 
 -- the slots, from this number on, whose second value isn't the first, each with its first value
 abbrev pub changes_from : ℕ → List Node → List Node → List Change

@@ -99,6 +99,10 @@ pub record ArePartsLevels (constants : ℕ) (ts : List Triple) (ns : List Node) 
   pub needed : (l : ℕ) → IsListed levels l → Each (λ n. IsFree ts n.0 l) ns → ⊥
   pub whole : Each (λ n. DependsOnly (λ l. (l < constants) ⊎ IsListed levels l) (function_of ts n.0)) ns
 
+-- each of the levels was there, or is one of the list that is no constant's
+abbrev pub AreGathered : ℕ → List ℕ → List ℕ → List ℕ → Type 0
+AreGathered constants support old new = (l : ℕ) → IsListed new l → IsListed old l ⊎ ((constants ≤ l) × IsListed support l)
+
 -- The images of the levels, put in all at once, are the most general solution of "no pair differs"; none depends on a greater
 -- level that has one.
 pub record ArePairsGeneral (old new : List Triple) (constants : ℕ) (qs : List (Node × Node)) (images : Images) : Type 0 where

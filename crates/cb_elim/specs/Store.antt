@@ -5,7 +5,7 @@ use Rattle.cb_dd.specs.declared.Triple.{Triple}
 use Rattle.cb_dd.specs.declared.Node.{Node}
 use Rattle.cb_dd.specs.Diagram.{Store, IsNode, function_of}
 use Rattle.cb_ops.specs.Ops.{Grows}
-use Rattle.cb_boole.specs.Elimination.{Function}
+use Rattle.cb_boole.specs.Elimination.{Function, DependsOnly}
 use Rattle.cb_boole.specs.Form.{IsForm}
 use Rattle.cb_boole.specs.View.{View, IsGood, IsFit, InRange, point}
 use Rattle.cb_elim.specs.declared.Free.{Free}
@@ -78,11 +78,23 @@ pub record IsArgument (s : Seen) (n : ℕ) : Type 0 where
   pub node : IsNode s.nodes.triples n
   pub fit : IsFit (view_of s) (function_of s.nodes.triples n)
 
+-- each node that may be handed to the old store may be handed to the new one
+abbrev pub KeepsArguments : Seen → Seen → Type 0
+KeepsArguments old new = (n : ℕ) → IsArgument old n → IsArgument new n
+
+-- the node depends on constants alone
+abbrev pub IsOfConstants : Seen → ℕ → Type 0
+IsOfConstants s n = DependsOnly (λ l. l < s.constants) (function_of s.nodes.triples n)
+
 -- nothing but nodes was added
 pub record OnlyNodes (old new : Seen) : Type 0 where
   pub same : new ≡ record old { nodes = new.nodes }
   pub grows : Grows old.nodes new.nodes
   pub arguments : (n : ℕ) → IsArgument old n → IsArgument new n
+
+-- the store with these nodes
+abbrev pub with_nodes : Store → Seen → Seen
+with_nodes t s = record s { nodes = t }
 
 -- the store with this count of refusals for nodes
 abbrev pub with_fulls : ℕ → Seen → Seen
@@ -92,18 +104,6 @@ with_fulls n s = record s { nodes = record { budget = s.nodes.budget; triples = 
 pub record IsAsBefore (old new : Seen) : Type 0 where
   pub same : new ≡ with_fulls new.nodes.fulls old
   pub fulls : old.nodes.fulls ≤ new.nodes.fulls
-
--- a variable was added: the next slot, whose value is the next level, which stands for it
-pub record IsNewVariable (old new : Seen) (x : ℕ) : Type 0 where
-  pub next : x ≡ length old.slots
-  pub drawn : new.drawn ≡ old.drawn + 1
-  pub free : new.free ≡ old.free ++ record { level = old.drawn; slot = x } ∷ []
-  pub node : Node
-  pub slots : new.slots ≡ old.slots ++ node ∷ []
-  pub function : (p : Bits) → function_of new.nodes.triples node.0 p ≡ p old.drawn
-  pub constants : new.constants ≡ old.constants
-  pub trail : new.trail ≡ old.trail
-  pub nodes : Grows old.nodes new.nodes
 
 -- the same pairs are in the range
 abbrev pub HasSameRange : View → View → Type 0
@@ -117,3 +117,41 @@ slot_bits S a w = λ x. S.values x (point S.stands a w)
 pub record AddsSlot (S S' : View) (x : ℕ) (bit : Bits → Bits → Bool) : Type 0 where
   pub stays : (a w v : Bits) → ((y : ℕ) → y ≢ x → w y ≡ v y) → (y : ℕ) → y < x → slot_bits S' a v y ≡ slot_bits S a w y
   pub added : (a w : Bits) → slot_bits S' a w x ≡ bit a w
+
+-- the slots have the same bits
+abbrev pub HasSameBits : Seen → Seen → Type 0
+HasSameBits s t = (a w : Bits) (x : ℕ) → slot_bits (view_of t) a w x ≡ slot_bits (view_of s) a w x
+
+-- the node has one value at all bits of the levels that give one pair of the range
+abbrev pub HasOneValue : Seen → ℕ → Type 0
+HasOneValue s n =
+    (a b : Bits) (r : InRange (view_of s) a b) → function_of s.nodes.triples n (point (view_of s).stands a b) ≡ function_of s.nodes.triples n r.at
+
+-- the next slot was added, with this value
+abbrev pub IsHeld : Seen → Seen → Node → ℕ → Type 0
+IsHeld old new f x = (x ≡ length old.slots) × (new ≡ record old { slots = old.slots ++ f ∷ [] })
+
+-- the slot that was added has the bit of this node
+abbrev pub AddsNode : Seen → Seen → ℕ → Type 0
+AddsNode old new f =
+    AddsSlot (view_of old) (view_of new) (length old.slots) (λ a w. function_of old.nodes.triples f (point (view_of old).stands a w))
+
+-- the slot that was added has the bit that it is given as a variable
+abbrev pub AddsVariable : Seen → Seen → Type 0
+AddsVariable old new = AddsSlot (view_of old) (view_of new) (length old.slots) (λ a w. w (length old.slots))
+
+-- A variable was added: the next slot, whose value is the next level, which stands for it. The range is the same, the other
+-- slots keep their bits, and the nodes that could be handed to the store still can.
+pub record IsNewVariable (old new : Seen) (x : ℕ) : Type 0 where
+  pub next : x ≡ length old.slots
+  pub drawn : new.drawn ≡ old.drawn + 1
+  pub free : new.free ≡ old.free ++ record { level = old.drawn; slot = x } ∷ []
+  pub node : Node
+  pub slots : new.slots ≡ old.slots ++ node ∷ []
+  pub function : (p : Bits) → function_of new.nodes.triples node.0 p ≡ p old.drawn
+  pub constants : new.constants ≡ old.constants
+  pub trail : new.trail ≡ old.trail
+  pub nodes : Grows old.nodes new.nodes
+  pub range : HasSameRange (view_of old) (view_of new)
+  pub stays : AddsVariable old new
+  pub arguments : KeepsArguments old new

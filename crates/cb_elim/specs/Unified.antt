@@ -3,11 +3,12 @@ use Rattle.std.specs.Prelude.{◌≡◌, ◌↔◌, ℕ, ◌+◌, ◌*◌, ◌^�
 use Rattle.cb_model.specs.Bits.{Bits, xor}
 use Rattle.cb_model.specs.Equations.{Table}
 use Rattle.cb_model.specs.Outside.{Rose}
+use Rattle.cb_dd.specs.Diagram.{function_of}
 use Rattle.cb_ops.specs.Ops.{Grows, DependsOn}
 use Rattle.cb_boole.specs.Elimination.{Function, rest, solved}
 use Rattle.cb_boole.specs.View.{View, InRange, point}
 use Rattle.cb_elim.specs.declared.Change.{Change}
-use Rattle.cb_elim.specs.Store.{Seen}
+use Rattle.cb_elim.specs.Store.{Seen, view_of}
 use Rattle.cb_elim.specs.Moments.{changes_from, undone}
 use Rattle.cb_elim.specs.Equation.{DependEach, IsElimination}
 
@@ -47,6 +48,18 @@ pub record OnlyValues (old new : Seen) : Type 0 where
   pub listed : changes ≡ changes_from 0 old.slots new.slots
   pub slots : undone changes new.slots ≡ old.slots
   pub nodes : Grows old.nodes new.nodes
+
+-- The equation of two nodes is solved: the range, the slots' values as the solution, what stays, and that at each pair of the
+-- range each slot has the value that it had.
+pub record IsUnified (old new : Seen) (f g : ℕ) : Type 0 where
+  pub solved : IsSolved (view_of old) (view_of new) (function_of old.nodes.triples f) (function_of old.nodes.triples g)
+  pub solution : IsSolutionOf (view_of old) (view_of new) (function_of old.nodes.triples f) (function_of old.nodes.triples g)
+  pub values : OnlyValues old new
+  pub slots : HasSameValues (view_of old) (view_of new)
+
+-- at some assignment no pair of the range makes the two nodes agree
+abbrev pub AreApart : Seen → ℕ → ℕ → Type 0
+AreApart s f g = HasNone (view_of s) (function_of s.nodes.triples f) (function_of s.nodes.triples g)
 
 -- A stop for nodes has its cause: the count of refusals rose, and the budget is below the nodes at the call and those
 -- that the equation may add, for each list of levels that has those on which its sides and the slots' values depend.

@@ -1,14 +1,13 @@
 //! The node of an expression over the slots of its variables.
 
-ghost use Rattle.std.specs.Prelude.{◌≡◌, ◌+◌, ◌-◌, ◌<◌, ◌≤◌, Bool, true, List, [], ◌∷◌, IfOk, OnErr, map, sum, length, Err};
+ghost use Rattle.std.specs.Prelude.{◌≡◌, ◌+◌, ◌-◌, ◌<◌, ◌≤◌, List, [], ◌∷◌, IfOk, OnErr, map, sum, length, Err};
 ghost use Rattle.cb_model.specs.Bits.{Bits};
-ghost use Rattle.cb_model.specs.Values.{expr_value};
 ghost use Rattle.cb_dd.specs.declared.Triple.{Triple};
 ghost use Rattle.cb_model.specs.Room.{expr_size};
 ghost use Rattle.cb_dd.specs.Diagram.{IsNode, function_of, fulls_after};
 ghost use Rattle.cb_ops.specs.Ops.{Grows, StandsFor, Room};
 ghost use Rattle.cb_elim.specs.Store.{AreThere};
-ghost use Rattle.cb_elim.specs.Expression.{ChainRoom, ExprRoom, chain_value, operator_value, variable_bits};
+ghost use Rattle.cb_elim.specs.Expression.{ChainRoom, ExprRoom, IsApplied, IsBitOf, IsChainOf, IsValueOf, chain_value};
 
 use crate::Slot;
 use cb_dd::{Node, Stop};
@@ -28,7 +27,7 @@ fn apply(ops: &mut Ops, operator: Operator, f: Node, g: Node) -> Result<Node, St
     requires f { IsNode ops.old.triples f.0 }
     requires g { IsNode ops.old.triples g.0 }
     ensures is_node { IfOk result (λ n. IsNode ops.new.triples n.0) }
-    ensures function { IfOk result (λ n. (a : Bits) → function_of ops.new.triples n.0 a ≡ operator_value operator (function_of ops.old.triples f.0 a) (function_of ops.old.triples g.0 a)) }
+    ensures function { IfOk result (λ n. IsApplied ops.old.triples ops.new.triples operator f.0 g.0 n.0) }
     ensures grows { Grows ops.old ops.new }
     ensures room { Room (f.0 ∷ g.0 ∷ []) 2 ops.old ops.new }
     ensures full { result ≡ Err Stop.Nodes → length ops.new.triples ≡ ops.new.budget }
@@ -58,7 +57,7 @@ fn none(operator: Operator) -> Node
 fn variable(ops: &Ops, slots: &[Node], vars: &[Option<Slot>], n: u32) -> Node
     requires { AreThere ops.now.triples slots.now }
     ensures is_node { IsNode ops.now.triples result.0 }
-    ensures function { (a : Bits) → function_of ops.now.triples result.0 a ≡ variable_bits ops.now.triples slots.now vars.now a n }
+    ensures function { IsBitOf ops.now.triples slots.now vars.now n result.0 }
 {
     let at = n as usize;
     if vars.len() <= at {
@@ -97,7 +96,7 @@ pub(crate) fn expression(
 ) -> Result<Node, Stop>
     requires { AreThere ops.old.triples slots.now }
     ensures is_node { IfOk result (λ n. IsNode ops.new.triples n.0) }
-    ensures function { IfOk result (λ n. (a : Bits) → function_of ops.new.triples n.0 a ≡ expr_value a (variable_bits ops.old.triples slots.now vars.now a) e.now) }
+    ensures function { IfOk result (λ n. IsValueOf ops.old.triples ops.new.triples slots.now vars.now e.now n.0) }
     ensures grows { Grows ops.old ops.new }
     ensures room { ExprRoom slots.now (length vars.now) e.now ops.old ops.new }
     ensures some { OnErr result (0 < expr_size e.now) }
@@ -134,7 +133,7 @@ fn operands(
 ) -> Result<Node, Stop>
     requires { AreThere ops.old.triples slots.now }
     ensures is_node { IfOk result (λ n. IsNode ops.new.triples n.0) }
-    ensures function { IfOk result (λ n. (a : Bits) → function_of ops.new.triples n.0 a ≡ chain_value operator (map (expr_value a (variable_bits ops.old.triples slots.now vars.now a)) xs.now)) }
+    ensures function { IfOk result (λ n. IsChainOf ops.old.triples ops.new.triples slots.now vars.now operator xs.now n.0) }
     ensures grows { Grows ops.old ops.new }
     ensures room { ChainRoom slots.now (length vars.now) xs.now ops.old ops.new }
     ensures some { OnErr result (0 < sum (map expr_size xs.now) + (length xs.now - 1)) }

@@ -2,27 +2,25 @@
 //! general solution in its reproductive form (Löwenheim 1908; Büttner and Simonis 1987).
 #![tactic(auto)]
 
-ghost use Rattle.std.specs.Prelude.{◌≡◌, ◌≢◌, ◌⊎◌, ℕ, Bool, List, true, false, ◌+◌, ◌-◌, ◌*◌, ◌<◌, ◌≤◌, ◌^◌, ◌↔◌, [], ◌∷◌, ◌++◌, length, map, take, drop, slice_index_or, slice_get, Some, None, Ok, Err, IfOk, OnOk, OnErr, IfSome, IfNone, IsErr, IsTrue, EachIndex, Contains, slice_index};
+ghost use Rattle.std.specs.Prelude.{◌≡◌, ℕ, Bool, true, false, ◌+◌, ◌-◌, ◌*◌, ◌<◌, ◌≤◌, ◌^◌, ◌↔◌, length, map, take, drop, slice_index_or, slice_get, Some, None, Ok, Err, IfOk, OnOk, OnErr, IsTrue, EachIndex, Contains, slice_index};
 ghost use Rattle.std.specs.List.Sorted.{IsStrictlyIncreasing};
-ghost use Rattle.cb_model.specs.Bits.{Bits, Each, xor};
+ghost use Rattle.cb_model.specs.Bits.{Bits, Each};
 ghost use Rattle.cb_dd.specs.Diagram.{Store as Nodes, IsNode, function_of, fulls_after};
-ghost use Rattle.cb_ops.specs.Ops.{Grows, IsIte, StandsFor};
+ghost use Rattle.cb_ops.specs.Ops.{Grows, StandsFor};
 ghost use Rattle.cb_ops.specs.Substitute.{AreNodes};
 ghost use Rattle.cb_ops.specs.Composed.{AreLower};
 ghost use Rattle.std.specs.Option.{option_map};
-ghost use Rattle.cb_boole.specs.Elimination.{DependsOnly};
-ghost use Rattle.cb_boole.specs.View.{InRange, IsFit, point};
-ghost use Rattle.cb_solution.specs.Solution.{IsFalling, has_refused};
-ghost use Rattle.cb_elim.specs.Store.{Seen, AddsSlot, IsStore, IsArgument, IsAsBefore, OnlyNodes, AreThere, HasSameRange, IsNewVariable, empty, slot_bits, value_in, view_of, with_fulls};
-ghost use Rattle.cb_model.specs.Values.{expr_value, in_scope};
+ghost use Rattle.cb_solution.specs.Solution.{has_refused};
+ghost use Rattle.cb_elim.specs.Store.{Seen, AddsNode, HasOneValue, HasSameBits, HasSameRange, IsArgument, IsAsBefore, IsHeld, IsNewVariable, IsOfConstants, IsStore, KeepsArguments, OnlyNodes, empty, value_in, view_of, with_nodes};
+ghost use Rattle.cb_model.specs.Values.{in_scope};
 ghost use Rattle.std.specs.Borrow.{sem};
 ghost use Rattle.cb_elim.specs.Lending.{LendsOps};
-ghost use Rattle.cb_elim.specs.Laws.{IsDecidedBy, NoneIsRefuted, RangeGrows, SolvedIsSolvable, live_levels};
-ghost use Rattle.cb_elim.specs.Expression.{AreLevels, ExprCause, ExprRoom, variable_bits};
+ghost use Rattle.cb_elim.specs.Laws.{MayBeChosen, MayBeDecided, NoneIsRefuted, RangeGrows, SolvedIsSolvable, live_levels};
+ghost use Rattle.cb_elim.specs.Expression.{AreLevels, ExprCause, ExprRoom, HasValueOf};
 ghost use Rattle.cb_elim.specs.Equation.{AreMoved, GeneralRoom, MovedRoom};
 ghost use Rattle.cb_ops.specs.Support.{IsListed};
-ghost use Rattle.cb_elim.specs.Unified.{HasCause, HasNone, HasSameValues, IsMostGeneral, IsReproductive, IsSolutionOf, IsSolved, OnlyValues, UnifyCause};
-ghost use Rattle.cb_elim.specs.Moments.{Moment, IsMoment, KeepsMoments, changes_from, moment_of, reverted, rewritten_since, undone, value_since};
+ghost use Rattle.cb_elim.specs.Unified.{AreApart, HasCause, IsMostGeneral, IsReproductive, IsUnified, OnlyValues, UnifyCause};
+ghost use Rattle.cb_elim.specs.Moments.{Moment, GivesBack, HasChanged, IsMoment, KeepsMoments, StillKeeps, moment_of, reverted, rewritten_since, undone};
 
 mod equation;
 mod expression;
@@ -200,7 +198,7 @@ impl Store {
     pub fn expr(&mut self, e: &Expr, vars: &[Option<Slot>]) -> Result<Node, Stop>
         requires store { IsStore self.old }
         requires scope { in_scope self.old.constants (length vars.now) e.now ≡ true }
-        ensures function { IfOk result (λ n. (p : Bits) → function_of self.new.nodes.triples n.0 p ≡ expr_value p (variable_bits self.old.nodes.triples self.old.slots vars.now p) e.now) }
+        ensures function { IfOk result (λ n. HasValueOf self.old self.new vars.now e.now n.0) }
         ensures argument { IfOk result (λ n. IsArgument self.new n.0) }
         ensures only_nodes { OnlyNodes self.old self.new }
         ensures as_before { OnErr result (IsAsBefore self.old self.new) }
@@ -224,11 +222,11 @@ impl Store {
     pub fn hold(&mut self, f: Node) -> Result<Slot, AllocError>
         requires store { IsStore self.old }
         requires argument { IsArgument self.old f.0 }
-        ensures held { IfOk result (λ s. (s.0 ≡ length self.old.slots) × (self.new ≡ record self.old { slots = self.old.slots ++ f ∷ [] })) }
+        ensures held { IfOk result (λ s. IsHeld self.old self.new f s.0) }
         ensures refused { OnErr result (self.new ≡ self.old) }
         ensures range { OnOk result (HasSameRange (view_of self.old) (view_of self.new)) }
-        ensures stays { OnOk result (AddsSlot (view_of self.old) (view_of self.new) (length self.old.slots) (λ a w. function_of self.old.nodes.triples f.0 (point (view_of self.old).stands a w))) }
-        ensures arguments { OnOk result ((n : ℕ) → IsArgument self.old n → IsArgument self.new n) }
+        ensures stays { OnOk result (AddsNode self.old self.new f.0) }
+        ensures arguments { OnOk result (KeepsArguments self.old self.new) }
         ensures moments { KeepsMoments self.old self.new }
         ensures store { IsStore self.new }
     {
@@ -267,8 +265,8 @@ impl Store {
         requires store { IsStore self.old }
         requires moment { IsMoment to self.old }
         ensures reverted { self.new ≡ reverted to self.old }
-        ensures back { (s : Seen) → IsStore s → to ≡ moment_of s → KeepsMoments s self.old → self.new ≡ with_fulls self.old.nodes.fulls s }
-        ensures moments { (s : Seen) → IsStore s → to ≡ moment_of s → KeepsMoments s self.old → KeepsMoments s self.new }
+        ensures back { GivesBack to self.old self.new }
+        ensures moments { StillKeeps to self.old self.new }
         ensures store { IsStore self.new }
     {
         restore(&mut self.trail, &mut self.slots, to.trail);
@@ -284,7 +282,7 @@ impl Store {
     pub fn rewritten(&self, since: StoreMark, k: u64) -> Option<Slot>
         requires { IsMoment since self.now }
         ensures listed { option_map (λ s. s.0) result ≡ slice_get (rewritten_since since self.now) k }
-        ensures whole { (x : ℕ) → (value_since since self.now x ≡ slice_get self.now.slots x → ⊥) → Contains (rewritten_since since self.now) x }
+        ensures whole { (x : ℕ) → HasChanged since self.now x → Contains (rewritten_since since self.now) x }
     {
         let made = self.trail.mark() - since.trail;
         if made <= k {
@@ -299,7 +297,7 @@ impl Store {
     /// Whether the node depends on no free level.
     pub fn known(&self, f: Node) -> Result<bool, AllocError>
         requires { IsNode self.now.nodes.triples f.0 }
-        ensures { IfOk result (λ b. IsTrue b ↔ DependsOnly (λ l. l < self.now.constants) (function_of self.now.nodes.triples f.0)) }
+        ensures { IfOk result (λ b. IsTrue b ↔ IsOfConstants self.now f.0) }
     {
         let support = self.ops.support(f)?;
         let known = are_below(support.as_slice(), self.constants);
@@ -325,7 +323,7 @@ impl Store {
         requires levels { self.old.drawn + count < 2 ^ 32 }
         ensures first { result ≡ self.old.drawn }
         ensures drawn { self.new ≡ record self.old { drawn = self.old.drawn + count } }
-        ensures arguments { (n : ℕ) → IsArgument self.old n → IsArgument self.new n }
+        ensures arguments { KeepsArguments self.old self.new }
         ensures moments { KeepsMoments self.old self.new }
         ensures store { IsStore self.new }
     {
@@ -341,9 +339,6 @@ impl Store {
         requires store { IsStore self.old }
         requires level { self.old.drawn + 1 < 2 ^ 32 }
         ensures slot { IfOk result (λ s. IsNewVariable self.old self.new s.0) }
-        ensures range { OnOk result (HasSameRange (view_of self.old) (view_of self.new)) }
-        ensures stays { OnOk result (AddsSlot (view_of self.old) (view_of self.new) (length self.old.slots) (λ a w. w (length self.old.slots))) }
-        ensures arguments { OnOk result ((n : ℕ) → IsArgument self.old n → IsArgument self.new n) }
         ensures as_before { OnErr result (IsAsBefore self.old self.new) }
         ensures moments { KeepsMoments self.old self.new }
         ensures store { IsStore self.new }
@@ -390,11 +385,8 @@ impl Store {
         requires store { IsStore self.old }
         requires f { IsArgument self.old f.0 }
         requires g { IsArgument self.old g.0 }
-        ensures solved { result ≡ Ok true → IsSolved (view_of self.old) (view_of self.new) (function_of self.old.nodes.triples f.0) (function_of self.old.nodes.triples g.0) }
-        ensures solution { result ≡ Ok true → IsSolutionOf (view_of self.old) (view_of self.new) (function_of self.old.nodes.triples f.0) (function_of self.old.nodes.triples g.0) }
-        ensures none { result ≡ Ok false → HasNone (view_of self.old) (function_of self.old.nodes.triples f.0) (function_of self.old.nodes.triples g.0) }
-        ensures values { result ≡ Ok true → OnlyValues self.old self.new }
-        ensures slots { result ≡ Ok true → HasSameValues (view_of self.old) (view_of self.new) }
+        ensures unified { result ≡ Ok true → IsUnified self.old self.new f.0 g.0 }
+        ensures none { result ≡ Ok false → AreApart self.old f.0 g.0 }
         ensures as_before { (result ≡ Ok true → ⊥) → IsAsBefore self.old self.new }
         ensures same_node { f ≡ g → (result ≡ Ok true) × (self.new ≡ self.old) }
         ensures room { GeneralRoom self.old.slots f.0 g.0 self.old.nodes self.new.nodes }
@@ -425,11 +417,8 @@ impl Store {
         requires store { IsStore self.old }
         requires f { IsArgument self.old f.0 }
         requires g { IsArgument self.old g.0 }
-        ensures solved { result ≡ Ok true → IsSolved (view_of self.old) (view_of self.new) (function_of self.old.nodes.triples f.0) (function_of self.old.nodes.triples g.0) }
-        ensures solution { result ≡ Ok true → IsSolutionOf (view_of self.old) (view_of self.new) (function_of self.old.nodes.triples f.0) (function_of self.old.nodes.triples g.0) }
-        ensures none { result ≡ Ok false → HasNone (view_of self.old) (function_of self.old.nodes.triples f.0) (function_of self.old.nodes.triples g.0) }
-        ensures values { result ≡ Ok true → OnlyValues self.old self.new }
-        ensures slots { result ≡ Ok true → HasSameValues (view_of self.old) (view_of self.new) }
+        ensures unified { result ≡ Ok true → IsUnified self.old self.new f.0 g.0 }
+        ensures none { result ≡ Ok false → AreApart self.old f.0 g.0 }
         ensures store { result ≡ Ok true → IsStore self.new }
         ensures only_nodes { (result ≡ Ok true → ⊥) → OnlyNodes self.old self.new }
         ensures room { GeneralRoom self.old.slots f.0 g.0 self.old.nodes self.new.nodes }
@@ -543,11 +532,11 @@ pub fn values_depend_on_live_levels()
 /// store is the same at all bits of the levels that give one pair of the range.
 pub fn loans_are_safe()
     ensures store { (s : Seen) (t : Nodes) → IsStore s → Grows s.nodes t → IsStore (record s { nodes = t }) }
-    ensures range { (s : Seen) (t : Nodes) → IsStore s → Grows s.nodes t → HasSameRange (view_of s) (view_of (record s { nodes = t })) }
-    ensures bits { (s : Seen) (t : Nodes) → IsStore s → Grows s.nodes t → (a w : Bits) (x : ℕ) → slot_bits (view_of (record s { nodes = t })) a w x ≡ slot_bits (view_of s) a w x }
-    ensures arguments { (s : Seen) (t : Nodes) → IsStore s → Grows s.nodes t → (n : ℕ) → IsArgument s n → IsArgument (record s { nodes = t }) n }
-    ensures functions { (s : Seen) (t : Nodes) → IsStore s → Grows s.nodes t → (fs : List ℕ) (n : ℕ) → Each (IsArgument s) fs → IsDecidedBy s.nodes t fs n → IsArgument (record s { nodes = t }) n }
-    ensures choices { (s : Seen) (t : Nodes) → IsStore s → Grows s.nodes t → (f g h n : ℕ) → Each (IsArgument s) (f ∷ g ∷ h ∷ []) → IsNode t.triples n → IsIte s.nodes.triples t.triples f g h n → IsArgument (record s { nodes = t }) n }
-    ensures values { (s : Seen) (n : ℕ) → IsStore s → IsArgument s n → (a b : Bits) (r : InRange (view_of s) a b) → function_of s.nodes.triples n (point (view_of s).stands a b) ≡ function_of s.nodes.triples n r.at }
+    ensures range { (s : Seen) (t : Nodes) → IsStore s → Grows s.nodes t → HasSameRange (view_of s) (view_of (with_nodes t s)) }
+    ensures bits { (s : Seen) (t : Nodes) → IsStore s → Grows s.nodes t → HasSameBits s (with_nodes t s) }
+    ensures arguments { (s : Seen) (t : Nodes) → IsStore s → Grows s.nodes t → KeepsArguments s (with_nodes t s) }
+    ensures functions { (s : Seen) (t : Nodes) → IsStore s → Grows s.nodes t → MayBeDecided s t }
+    ensures choices { (s : Seen) (t : Nodes) → IsStore s → Grows s.nodes t → MayBeChosen s t }
+    ensures values { (s : Seen) (n : ℕ) → IsStore s → IsArgument s n → HasOneValue s n }
     ensures moments { (s : Seen) (t : Nodes) → Grows s.nodes t → KeepsMoments s (record s { nodes = t }) }
 {}

@@ -1,7 +1,6 @@
 //! Many equations at once.
 
 ghost use Rattle.std.specs.Prelude.{◌≡◌, ◌↔◌, IsTrue, true, false, length, Ok, Err};
-ghost use Rattle.cb_model.specs.Bits.{Each};
 ghost use Rattle.cb_solution.specs.Solution.{has_refused};
 ghost use Rattle.cb_elim.specs.Store.{IsStore, IsAsBefore, OnlyNodes, view_of};
 ghost use Rattle.cb_elim.specs.Moments.{KeepsMoments};

@@ -1,13 +1,12 @@
 //! The most general solution of many equations, each a part of one elimination.
 
-ghost use Rattle.std.specs.Prelude.{◌≡◌, ◌⊎◌, ◌≤◌, ℕ, length, Err, IfOk, IfSome, IfNone, OnOk};
-ghost use Rattle.cb_dd.specs.Diagram.{IsNode};
+ghost use Rattle.std.specs.Prelude.{◌≡◌, ◌≤◌, ℕ, length, Err, IfOk, IfSome, IfNone, OnOk};
 ghost use Rattle.cb_ops.specs.Ops.{Grows};
 ghost use Rattle.cb_ops.specs.Support.{IsListed};
 ghost use Rattle.cb_solution.specs.Differ.{ArePairs};
 ghost use Rattle.cb_solution.specs.Parts.{AreParts};
 ghost use Rattle.cb_solution.specs.Solution.{has_refused};
-ghost use Rattle.cb_elim.specs.Pairs.{AreDifferences, ArePairsGeneral, ArePartsLevels, DifferencesRoom, HavePairsNoSolution, PairsSidesRoom};
+ghost use Rattle.cb_elim.specs.Pairs.{AreDifferences, AreGathered, ArePairsGeneral, ArePartsLevels, DifferencesRoom, HavePairsNoSolution, PairsSidesRoom};
 
 use cb_dd::{Node, Stop};
 use cb_ops::Ops;
@@ -79,7 +78,7 @@ fn levels_of(
 // Adds the levels of the list, but for the constants.
 fn gather(constants: u32, support: &[u32], levels: &mut IndexSet<u32>) -> Result<(), AllocError>
     ensures kept { (l : ℕ) → IsListed levels.old.keys l → IsListed levels.new.keys l }
-    ensures from { (l : ℕ) → IsListed levels.new.keys l → IsListed levels.old.keys l ⊎ ((constants ≤ l) × IsListed support.now l) }
+    ensures from { AreGathered constants support.now levels.old.keys levels.new.keys }
     ensures whole { OnOk result ((l : ℕ) → IsListed support.now l → constants ≤ l → IsListed levels.new.keys l) }
 {
     for level in support {

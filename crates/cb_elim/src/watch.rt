@@ -1,17 +1,16 @@
 //! Which slots may depend on which free levels, and the rewriting of those that do.
 
-ghost use Rattle.std.specs.Prelude.{◌≡◌, ◌⊎◌, ℕ, false, ◌<◌, ◌≤◌, length, map, slice_index_or, Err, IfOk, OnOk, OnErr};
+ghost use Rattle.std.specs.Prelude.{◌≡◌, ◌⊎◌, ℕ, false, ◌<◌, length, map, slice_index_or, Err, IfOk, OnOk, OnErr};
 ghost use Rattle.std.specs.List.Sorted.{IsStrictlyIncreasing};
-ghost use Rattle.cb_model.specs.Bits.{Bits, Each};
-ghost use Rattle.cb_dd.specs.Diagram.{IsNode, fulls_after};
+ghost use Rattle.cb_model.specs.Bits.{Each};
+ghost use Rattle.cb_dd.specs.Diagram.{IsNode};
 ghost use Rattle.cb_ops.specs.Ops.{Grows};
 ghost use Rattle.cb_ops.specs.Support.{IsListed};
-ghost use Rattle.cb_ops.specs.Substitute.{AreNodes, substituted};
+ghost use Rattle.cb_ops.specs.Substitute.{AreNodes};
 ghost use Rattle.cb_ops.specs.Composed.{AreLower, ComposedRoom};
 ghost use Rattle.cb_solution.specs.Solution.{has_refused};
-ghost use Rattle.cb_trail.specs.Uses.{IsUsed};
-ghost use Rattle.cb_elim.specs.Store.{AreThere, value_in};
-ghost use Rattle.cb_elim.specs.Watch.{AreWatched, Covers, IsWatched, KeepsUses, UsesNew};
+ghost use Rattle.cb_elim.specs.Store.{AreThere};
+ghost use Rattle.cb_elim.specs.Watch.{AreWatched, Covers, HasOthers, HasPutIn, HasUsers, IsWatched, KeepsUses, UsesGained, UsesNew};
 ghost use Rattle.cb_elim.specs.Equation.{AreRewritten, IsStepped, MovedRoom};
 
 use crate::Change;
@@ -59,7 +58,7 @@ fn add_uses(
     since: u64,
 ) -> Result<(), AllocError>
     ensures kept { KeepsUses uses.old uses.new }
-    ensures used { OnOk result ((l : ℕ) → IsListed levels.now l → constants ≤ l → (IsListed before.now l → ⊥) → IsUsed uses.new l slot since) }
+    ensures used { OnOk result (UsesGained constants uses.new before.now levels.now slot since) }
 {
     for level in levels {
         if is_gained(constants, before, *level) {
@@ -149,7 +148,7 @@ pub(crate) fn dependents(
 ) -> Result<IndexSet<usize>, AllocError>
     ensures rise { IfOk result (λ found. IsStrictlyIncreasing found.keys) }
     ensures below { IfOk result (λ found. (x : ℕ) → IsListed found.keys x → x < below) }
-    ensures whole { IfOk result (λ found. (l x t : ℕ) → IsListed (map (λ i. i.0) images.now) l → x < below → IsUsed uses.now l x t → IsListed found.keys x) }
+    ensures whole { IfOk result (λ found. HasUsers uses.now images.now below found.keys) }
 {
     let mut found = IndexSet::new(alloc);
     for (level, _node) in images {
@@ -176,8 +175,8 @@ pub(crate) fn rewrite(
     requires at_rise { IsStrictlyIncreasing at.now }
     requires at_below { (x : ℕ) → IsListed at.now x → x < length slots.old }
     requires watched { AreWatched ops.old.triples constants slots.old trail.old uses.old }
-    ensures values { OnOk result ((x : ℕ) (p : Bits) → IsListed at.now x → value_in ops.new.triples slots.new x p ≡ value_in ops.old.triples slots.old x (substituted ops.old.triples images.now p)) }
-    ensures others { OnOk result ((x : ℕ) (p : Bits) → (IsListed at.now x → ⊥) → value_in ops.new.triples slots.new x p ≡ value_in ops.old.triples slots.old x p) }
+    ensures values { OnOk result (HasPutIn ops.old.triples ops.new.triples images.now at.now slots.old slots.new) }
+    ensures others { OnOk result (HasOthers ops.old.triples ops.new.triples at.now slots.old slots.new) }
     ensures rewritten { AreRewritten slots.old slots.new trail.old trail.new }
     ensures grows { Grows ops.old ops.new }
     ensures watched { AreWatched ops.new.triples constants slots.new trail.new uses.new }

@@ -9,22 +9,23 @@ use Rattle.cb_dd.specs.declared.Triple.{Triple}
 use Rattle.cb_dd.specs.declared.Node.{Node}
 use Rattle.cb_dd.specs.Diagram.{Store, IsNode, function_of}
 use Rattle.cb_ops.specs.Ops.{Grows}
+use Rattle.cb_ops.proofs.Ite.{Grows-same}
 use Rattle.cb_boole.specs.Elimination.{Function, DependsOnly}
 use Rattle.cb_boole.specs.View.{IsFit, IsLive}
 use Rattle.cb_boole.proofs.Only.{weaker}
 use Rattle.cb_elim.specs.declared.Slot.{Slot}
-use Rattle.cb_elim.specs.Store.{Seen, IsStore, IsArgument, view_of, value_in, AreThere}
+use Rattle.cb_elim.specs.Store.{Seen, IsStore, IsArgument, KeepsArguments, view_of, value_in, AreThere}
 use Rattle.cb_elim.specs.Moments.{KeepsMoments}
 use Rattle.cb_elim.proofs.Back.{keeps, store-drawn, argument-drawn}
 use Rattle.cb_elim.proofs.Views.{store-still, argument-still}
 use Rattle.cb_boole.specs.Parametric.{Reaches, Allows, values_at}
 use Rattle.cb_boole.proofs.Shown.{reaches_allows, gen_same}
-use Rattle.cb_project.specs.Leaves.{functions_of, AllNodes, AllBelow, AreParametric, ParametricRoom, ParametricCause}
+use Rattle.cb_project.specs.Leaves.{functions_of, AllNodes, AllBelow, AreParametric, IsFormOf, ParametricRoom, ParametricCause}
 use Rattle.cb_boole.specs.Form.{AreSettled, values_of}
 use Rattle.cb_boole.specs.Stages.{AreOwn}
 use Rattle.cb_boole.proofs.Leaves.{settled_parametric, settled_own}
 use Rattle.cb_project.specs.Renaming.{Entries, names_in, numbers_of, AreNamed, IsRenaming}
-use Rattle.cb_project.specs.Answer.{AreSlots, slot_nodes, slot_values, IsAnswer}
+use Rattle.cb_project.specs.Answer.{AreSlots, DrawsLevels, IsAnswer, IsProjected, slot_nodes, slot_values}
 
 -- ---- the values
 
@@ -101,6 +102,10 @@ is-answer s leaves first gens st are is p =
     (reaches_allows (view_of s) st.good (slot_values s leaves) (values-fit s leaves st) p) [] (map p (numbers_from first (length gens))) (values_at gens p)
     (subst (λ fs. Gen (Reaches s.constants fs p) [] (map p (numbers_from first (length gens))) (values_at gens p)) (functions-slots s leaves are) (is p))
 
+length-slots : (s : Seen) (leaves : List Slot) → length (slot_nodes s leaves) ≡ length leaves
+length-slots s [] = refl
+length-slots s (l ∷ leaves) = ap suc (length-slots s leaves)
+
 -- ---- the store after the call
 
 -- levels were drawn and nodes added
@@ -160,7 +165,7 @@ module _ (s s1 : Seen) (m : ℕ) (e : s1 ≡ record s { drawn = s.drawn + m }) (
     pub lent-store : IsStore (record s1 { nodes = t })
     lent-store = subst IsStore (sym same-after) (store-after s m t st g)
 
-    pub lent-argument : (n : ℕ) → IsArgument s n → IsArgument (record s1 { nodes = t }) n
+    lent-argument : (n : ℕ) → IsArgument s n → IsArgument (record s1 { nodes = t }) n
     lent-argument n a = subst (λ (o : Seen). IsArgument o n) (sym same-after) (argument-after s m t st g n a)
 
     pub lent-moments : KeepsMoments s (record s1 { nodes = t })
@@ -172,11 +177,31 @@ module _ (s s1 : Seen) (m : ℕ) (e : s1 ≡ record s { drawn = s.drawn + m }) (
     pub lent-cause : ParametricRoom l t0 t → Rose t0.fulls t.fulls → length t.triples ≡ t.budget → ParametricCause (slot_nodes s leaves) s.nodes t
     lent-cause r rose full = the-cause (slot_nodes s leaves) s.nodes t g (lent-room r) (subst (λ (o : Store). Rose o.fulls t.fulls) nodes-are rose) full
 
-    pub lent-answer : (c first : ℕ) (gens : List Function) → c ≡ s1.constants → AreParametric c first (functions_of t0.triples l) gens → IsAnswer s leaves first gens
+    lent-answer : (c first : ℕ) (gens : List Function) → c ≡ s1.constants → AreParametric c first (functions_of t0.triples l) gens → IsAnswer s leaves first gens
     lent-answer c first gens ec is = is-answer s leaves first gens st are
         (subst (λ (n : ℕ). AreParametric n first (functions_of s.nodes.triples (slot_nodes s leaves)) gens) (ec ∙ ap (λ (o : Seen). o.constants) e)
         (subst (λ (o : Store). AreParametric c first (functions_of o.triples (slot_nodes s leaves)) gens) nodes-are
         (subst (λ (ns : List Node). AreParametric c first (functions_of t0.triples ns) gens) values-are is)))
+
+    pub lent-draws : DrawsLevels s (record s1 { nodes = t }) m
+    lent-draws = record { same = same-after; grows = g; arguments = lent-argument }
+
+    pub lent-projected : (c first : ℕ) (ns : List Node) → c ≡ s1.constants → first ≡ s.drawn → IsFormOf t0.triples t.triples c first l ns → IsProjected s (record s1 { nodes = t }) leaves first ns
+    lent-projected c first ns ec ef form = record {
+      as_many = form.as_many ∙ ap length values-are ∙ length-slots s leaves;
+      first = ef;
+      nodes = form.nodes;
+      answer = lent-answer c first (functions_of t.triples ns) ec form.parametric;
+      own = subst (λ n. AreOwn n first 0 (functions_of t.triples ns)) (ec ∙ ap (λ (o : Seen). o.constants) e) form.own;
+    }
+
+-- levels alone were drawn
+pub drawn-draws : (s s1 : Seen) (m : ℕ) → s1 ≡ record s { drawn = s.drawn + m } → KeepsArguments s s1 → DrawsLevels s s1 m
+drawn-draws s s1 m e kept = record {
+  same = e ∙ (λ i. record s { drawn = s.drawn + m; nodes = sym (ap (λ (o : Seen). o.nodes) e) i });
+  grows = subst (λ (t : Store). Grows s.nodes t) (sym (ap (λ (o : Seen). o.nodes) e)) (Grows-same s.nodes);
+  arguments = kept;
+}
 
 pub room-none : (values : List Node) (s : Store) → ParametricRoom values s s
 room-none values s = Rattle.cb_project.proofs.Whole.whole-room s s values 0 (omega arith) (λ ls d. omega arith)

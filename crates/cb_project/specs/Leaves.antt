@@ -14,7 +14,7 @@ use Rattle.std.specs.List.Sorted.{IsStrictlyIncreasing}
 use Rattle.cb_boole.specs.Elimination.{Function, DependsOnly, IsAway, solved}
 use Rattle.cb_solution.specs.Solution.{ImagesWithin}
 use Rattle.cb_boole.specs.Parametric.{values_at, Reaches, parametric}
-use Rattle.cb_boole.specs.Stages.{AreFor, misses, put_in}
+use Rattle.cb_boole.specs.Stages.{AreFor, AreOwn, misses, put_in}
 
 -- the functions of nodes
 abbrev pub functions_of : List Triple → List Node → List Function
@@ -37,11 +37,26 @@ abbrev pub AreParametric : ℕ → ℕ → List Function → List Function → T
 AreParametric constants first fs gens =
     (p : Bits) → Gen (Reaches constants fs p) [] (map p (numbers_from first (length gens))) (values_at gens p)
 
+-- as many nodes, the parametric form of the values, each over the constants and the parameters up to its own
+pub record IsFormOf (old new : List Triple) (constants first : ℕ) (values ns : List Node) : Type 0 where
+  pub nodes : AllNodes new ns
+  pub as_many : length ns ≡ length values
+  pub parametric : AreParametric constants first (functions_of old values) (functions_of new ns)
+  pub own : AreOwn constants first 0 (functions_of new ns)
+
 -- the levels on which the function depends, but for constants below and parameters above
 pub record AreInner (ts : List Triple) (f constants first : ℕ) (levels : List ℕ) : Type 0 where
   pub between : Each (λ l. (constants ≤ l) × (l < first)) levels
   pub others : DependsOnly (λ k. ((k < constants) ⊎ (first ≤ k)) ⊎ (IsAway k levels → ⊥)) (function_of ts f)
   pub needed : (l : ℕ) → IsListed levels l → IsFree ts f l → ⊥
+
+-- the node is the parametric function of f
+abbrev pub IsPicked : List Triple → List Triple → List ℕ → ℕ → ℕ → ℕ → Type 0
+IsPicked old new levels parameter f n = StandsFor new n (parametric levels parameter (function_of old f))
+
+-- the node is f with the images put in
+abbrev pub IsReplaced : List Triple → List Triple → Images → ℕ → ℕ → Type 0
+IsReplaced old new images f n = StandsFor new n (λ p. function_of old f (substituted old images p))
 
 -- nodes that an elimination of levels adds at most, for each list of levels on which f depends alone
 pub record RestRoom (f : ℕ) (count : ℕ) (old new : Store) : Type 0 where

@@ -36,6 +36,10 @@ pub record AreNamed (s : Seen) (first : ℕ) (leaves : List Slot) (i next : ℕ)
   pub rise : IsStrictlyIncreasing (map (λ e. e.0) es)
   pub settled : AreSettled (view_of s) (names_in es) first (numbers_of (take i leaves))
 
+-- after all leaves
+abbrev pub AreAllNamed : Seen → ℕ → List Slot → Entries → Type 0
+AreAllNamed s first leaves es = (next : ℕ) × AreNamed s first leaves (length leaves) next es
+
 -- with the parameters in place of the levels the functions are their own parametric form
 pub record IsRenaming (constants first : ℕ) (fs : List Function) (es : Entries) : Type 0 where
   pub constant : (l v : ℕ) → names_in es l ≡ Some v → constants ≤ l

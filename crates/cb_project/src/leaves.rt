@@ -1,19 +1,16 @@
 //! The parametric form of leaves on decision diagrams, leaf by leaf.
 
-ghost use Rattle.std.specs.Prelude.{◌≡◌, ◌≢◌, ◌+◌, ◌-◌, ◌<◌, ◌≤◌, ◌^◌, Bool, ◌&&◌, List, [], ◌∷◌, map, reverse, length, nat_lt, nat_le, Ok, Err, IfOk};
+ghost use Rattle.std.specs.Prelude.{◌≡◌, ◌+◌, ◌-◌, ◌<◌, ◌≤◌, ◌^◌, ◌&&◌, map, reverse, length, nat_lt, nat_le, Ok, Err, IfOk};
 ghost use Rattle.std.specs.List.{filter};
 ghost use Rattle.std.specs.List.Sorted.{IsStrictlyIncreasing};
-ghost use Rattle.cb_model.specs.Bits.{Bits};
 ghost use Rattle.cb_model.specs.Outside.{Rose};
 ghost use Rattle.cb_dd.specs.Diagram.{IsNode, function_of};
 ghost use Rattle.cb_ops.specs.Ops.{Grows, StandsFor};
-ghost use Rattle.cb_ops.specs.Substitute.{AreNodes, substituted};
+ghost use Rattle.cb_ops.specs.Substitute.{AreNodes};
 ghost use Rattle.cb_ops.specs.Composed.{AreLower};
-ghost use Rattle.cb_boole.specs.Elimination.{Function, DependsOnly, rest};
+ghost use Rattle.cb_boole.specs.Elimination.{DependsOnly, rest};
 ghost use Rattle.cb_solution.specs.Solution.{IsFalling};
-ghost use Rattle.cb_boole.specs.Parametric.{parametric};
-ghost use Rattle.cb_boole.specs.Stages.{AreOwn};
-ghost use Rattle.cb_project.specs.Leaves.{functions_of, AllNodes, AllBelow, AreParametric, AreInner, RestRoom, PickRoom, IsLeaf, LeafRoom, ArePutIn, PutRoom, ReplacedRoom, IsStep, StepRoom, ParametricRoom};
+ghost use Rattle.cb_project.specs.Leaves.{functions_of, AllNodes, AllBelow, IsFormOf, AreInner, RestRoom, PickRoom, IsLeaf, IsPicked, IsReplaced, LeafRoom, ArePutIn, PutRoom, ReplacedRoom, IsStep, StepRoom, ParametricRoom};
 
 use cb_dd::{Node, Stop};
 use cb_ops::Ops;
@@ -77,7 +74,7 @@ fn eliminate(ops: &mut Ops, f: Node, levels: &[u32]) -> Result<Node, Stop>
 fn pick(ops: &mut Ops, f: Node, levels: &[u32], parameter: u32) -> Result<Node, Stop>
     requires { IsNode ops.old.triples f.0 }
     ensures is_node { IfOk result (λ n. IsNode ops.new.triples n.0) }
-    ensures function { IfOk result (λ n. StandsFor ops.new.triples n.0 (parametric levels.now parameter (function_of ops.old.triples f.0))) }
+    ensures function { IfOk result (λ n. IsPicked ops.old.triples ops.new.triples levels.now parameter f.0 n.0) }
     ensures grows { Grows ops.old ops.new }
     ensures room { PickRoom f.0 parameter (length levels.now) ops.old ops.new }
     ensures full { result ≡ Err Stop.Nodes → length ops.new.triples ≡ ops.new.budget }
@@ -139,7 +136,7 @@ fn replaced(ops: &mut Ops, value: Node, images: &[(u32, Node)], way: Way) -> Res
     requires rise { IsStrictlyIncreasing (map (λ i. i.0) images.now) }
     requires lower { way ≡ Way.OneByOne → AreLower ops.old.triples images.now }
     ensures is_node { IfOk result (λ n. IsNode ops.new.triples n.0) }
-    ensures function { IfOk result (λ n. StandsFor ops.new.triples n.0 (λ p. function_of ops.old.triples value.0 (substituted ops.old.triples images.now p))) }
+    ensures function { IfOk result (λ n. IsReplaced ops.old.triples ops.new.triples images.now value.0 n.0) }
     ensures grows { Grows ops.old ops.new }
     ensures room { ReplacedRoom value.0 images.now ops.old ops.new }
     ensures full { result ≡ Err Stop.Nodes → length ops.new.triples ≡ ops.new.budget }
@@ -222,10 +219,7 @@ pub fn leaf_nodes(
     requires constants { constants ≤ first }
     requires levels { first + length values.now ≤ 2 ^ 32 }
     requires below { AllBelow first (functions_of ops.old.triples values.now) }
-    ensures nodes { IfOk result (λ v. AllNodes ops.new.triples v.items) }
-    ensures as_many { IfOk result (λ v. length v.items ≡ length values.now) }
-    ensures parametric { IfOk result (λ v. AreParametric constants first (functions_of ops.old.triples values.now) (functions_of ops.new.triples v.items)) }
-    ensures own { IfOk result (λ v. AreOwn constants first 0 (functions_of ops.new.triples v.items)) }
+    ensures form { IfOk result (λ v. IsFormOf ops.old.triples ops.new.triples constants first values.now v.items) }
     ensures grows { Grows ops.old ops.new }
     ensures room { ParametricRoom values.now ops.old ops.new }
     ensures full { result ≡ Err Stop.Nodes → length ops.new.triples ≡ ops.new.budget }

@@ -1,14 +1,11 @@
 //! The parametric form of an answer: for each leaf a function of the constants and of the parameters up to its own.
 #![tactic(auto)]
 
-ghost use Rattle.std.specs.Prelude.{◌≡◌, ◌≢◌, ℕ, ◌+◌, ◌-◌, ◌<◌, ◌≤◌, ◌^◌, length, Ok, Err, IfOk};
-ghost use Rattle.cb_dd.specs.Diagram.{IsNode};
-ghost use Rattle.cb_ops.specs.Ops.{Grows};
-ghost use Rattle.cb_elim.specs.Store.{IsArgument, IsStore};
+ghost use Rattle.std.specs.Prelude.{◌≡◌, ◌≢◌, ◌+◌, ◌-◌, ◌<◌, ◌^◌, length, Ok, Err, IfOk};
+ghost use Rattle.cb_elim.specs.Store.{IsStore};
 ghost use Rattle.cb_elim.specs.Moments.{KeepsMoments};
-ghost use Rattle.cb_boole.specs.Stages.{AreOwn};
-ghost use Rattle.cb_project.specs.Leaves.{functions_of, AllNodes, ParametricCause, ParametricRoom};
-ghost use Rattle.cb_project.specs.Answer.{AreSlots, IsAnswer, slot_nodes};
+ghost use Rattle.cb_project.specs.Leaves.{ParametricRoom};
+ghost use Rattle.cb_project.specs.Answer.{AnswerCause, AreSlots, DrawsLevels, IsProjected, slot_nodes};
 
 use cb_dd::{Node, Stop};
 use cb_elim::{Slot, Store};
@@ -48,24 +45,18 @@ fn slot_values(alloc: Global, store: &Store, leaves: &[Slot]) -> Result<Vec<Node
 /// allow that after the leaves before it, else the other bit. It draws a level for each leaf.
 ///
 /// Where the leaves are variables in the order of their levels, their values are this form as they stand, with the levels
-/// in place of the parameters. Else, leaf by leaf: the solution (Boole 1854) of "the leaf is its node" is put into the leaves that follow. After a stop the
-/// levels are drawn and nodes may stay; all goes with an undo of the caller.
+/// in place of the parameters. Else, leaf by leaf: the solution (Boole 1854) of "the leaf is its node" is put into the
+/// leaves that follow. After a stop the levels are drawn and nodes may stay; all goes with an undo of the caller.
 pub fn general(alloc: Global, store: &mut Store, leaves: &[Slot]) -> Result<Projected, Stop>
     requires store { IsStore store.old }
     requires slots { AreSlots store.old leaves.now }
     requires levels { store.old.drawn + length leaves.now < 2 ^ 32 }
-    ensures as_many { IfOk result (λ r. length r.nodes ≡ length leaves.now) }
-    ensures first { IfOk result (λ r. r.first ≡ store.old.drawn) }
-    ensures nodes { IfOk result (λ r. AllNodes store.new.nodes.triples r.nodes) }
-    ensures answer { IfOk result (λ r. IsAnswer store.old leaves.now r.first (functions_of store.new.nodes.triples r.nodes)) }
-    ensures own { IfOk result (λ r. AreOwn store.old.constants r.first 0 (functions_of store.new.nodes.triples r.nodes)) }
-    ensures same { store.new ≡ record store.old { drawn = store.old.drawn + length leaves.now; nodes = store.new.nodes } }
-    ensures grows { Grows store.old.nodes store.new.nodes }
-    ensures arguments { (n : ℕ) → IsArgument store.old n → IsArgument store.new n }
+    ensures projected { IfOk result (λ r. IsProjected store.old store.new leaves.now r.first r.nodes) }
+    ensures draws { DrawsLevels store.old store.new (length leaves.now) }
     ensures moments { KeepsMoments store.old store.new }
     ensures store { IsStore store.new }
     ensures room { ParametricRoom (slot_nodes store.old leaves.now) store.old.nodes store.new.nodes }
-    ensures cause { result ≡ Err Stop.Nodes → ParametricCause (slot_nodes store.old leaves.now) store.old.nodes store.new.nodes }
+    ensures cause { result ≡ Err Stop.Nodes → AnswerCause store.old store.new leaves.now }
     ensures unbounded { store.old.nodes.budget ≡ 2 ^ 64 - 1 → result ≢ Err Stop.Nodes }
 {
     let first = store.draw(leaves.len() as u32);

@@ -1,17 +1,16 @@
 //! Leaves whose values are a parametric form already: the parameters take the places of their levels, and nothing is
 //! eliminated.
 
-ghost use Rattle.std.specs.Prelude.{◌≡◌, ◌⊎◌, ℕ, suc, ◌+◌, ◌<◌, ◌≤◌, ◌^◌, nat_eq, length, Some, None, Ok, Err, IfOk, IfSome, OnOk, IsTrue, IsSome};
+ghost use Rattle.std.specs.Prelude.{◌≡◌, ◌⊎◌, ℕ, ◌+◌, ◌<◌, ◌≤◌, ◌^◌, nat_eq, length, Some, None, Ok, Err, IfOk, IfSome, IsTrue, IsSome};
 ghost use Rattle.indexmap.specs.IndexMap.{get};
 ghost use Rattle.cb_model.specs.Outside.{Rose};
 ghost use Rattle.cb_dd.specs.Diagram.{IsNode};
 ghost use Rattle.cb_ops.specs.Ops.{Grows, StandsFor};
 ghost use Rattle.cb_ops.specs.Support.{IsListed};
-ghost use Rattle.cb_boole.specs.Stages.{AreOwn};
 ghost use Rattle.cb_elim.specs.Store.{IsStore, stands_in};
 ghost use Rattle.cb_project.specs.Answer.{AreSlots, slot_nodes};
-ghost use Rattle.cb_project.specs.Leaves.{functions_of, AllBelow, AllNodes, AreParametric, ParametricRoom};
-ghost use Rattle.cb_project.specs.Renaming.{AreImages, AreNamed, IsNamedNext, IsRenaming, names_in};
+ghost use Rattle.cb_project.specs.Leaves.{functions_of, AllBelow, AllNodes, IsFormOf, ParametricRoom};
+ghost use Rattle.cb_project.specs.Renaming.{AreAllNamed, AreImages, IsNamedNext, IsRenaming, names_in};
 
 use crate::leaves::{Way, leaf_nodes, put_in};
 use cb_dd::{Node, Stop};
@@ -82,7 +81,7 @@ pub fn renaming(
     requires slots { AreSlots store.now leaves.now }
     requires values { values.now ≡ slot_nodes store.now leaves.now }
     requires levels { first + length leaves.now < 2 ^ 32 }
-    ensures { IfOk result (λ found. IfSome found (λ m. (next : ℕ) × AreNamed store.now first leaves.now (length leaves.now) next m.entries)) }
+    ensures { IfOk result (λ found. IfSome found (λ m. AreAllNamed store.now first leaves.now m.entries)) }
 {
     let levels = levels_of(alloc, store.free())?;
     let constants = store.constants();
@@ -148,10 +147,7 @@ pub fn renamed_nodes(
 ) -> Result<Vec<Node>, Stop>
     requires nodes { AllNodes ops.old.triples values.now }
     requires names { IsRenaming constants first (functions_of ops.old.triples values.now) names.now.entries }
-    ensures nodes { IfOk result (λ v. AllNodes ops.new.triples v.items) }
-    ensures as_many { IfOk result (λ v. length v.items ≡ length values.now) }
-    ensures parametric { IfOk result (λ v. AreParametric constants first (functions_of ops.old.triples values.now) (functions_of ops.new.triples v.items)) }
-    ensures own { IfOk result (λ v. AreOwn constants first 0 (functions_of ops.new.triples v.items)) }
+    ensures form { IfOk result (λ v. IsFormOf ops.old.triples ops.new.triples constants first values.now v.items) }
     ensures grows { Grows ops.old ops.new }
     ensures room { ParametricRoom values.now ops.old ops.new }
     ensures full { result ≡ Err Stop.Nodes → length ops.new.triples ≡ ops.new.budget }
@@ -177,10 +173,7 @@ pub fn form_nodes(
     requires levels { first + length values.now ≤ 2 ^ 32 }
     requires below { AllBelow first (functions_of ops.old.triples values.now) }
     requires names { IfSome found (λ m. IsRenaming constants first (functions_of ops.old.triples values.now) m.entries) }
-    ensures nodes { IfOk result (λ v. AllNodes ops.new.triples v.items) }
-    ensures as_many { IfOk result (λ v. length v.items ≡ length values.now) }
-    ensures parametric { IfOk result (λ v. AreParametric constants first (functions_of ops.old.triples values.now) (functions_of ops.new.triples v.items)) }
-    ensures own { IfOk result (λ v. AreOwn constants first 0 (functions_of ops.new.triples v.items)) }
+    ensures form { IfOk result (λ v. IsFormOf ops.old.triples ops.new.triples constants first values.now v.items) }
     ensures grows { Grows ops.old ops.new }
     ensures room { ParametricRoom values.now ops.old ops.new }
     ensures full { result ≡ Err Stop.Nodes → length ops.new.triples ≡ ops.new.budget }

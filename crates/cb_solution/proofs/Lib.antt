@@ -1,7 +1,6 @@
 pub mod Steps
 pub mod Solved
 pub mod Loops
-pub mod Gathered
 pub mod Lower
 pub mod Stages
 mod Places

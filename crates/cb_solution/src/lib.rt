@@ -1,22 +1,20 @@
 //! Elimination of levels on decision diagrams, and the solution of an equation for them (Boole 1854).
 #![tactic(auto)]
 
-ghost use Rattle.std.specs.Prelude.{◌≡◌, ℕ, ◌+◌, ◌*◌, ◌<◌, ◌≤◌, ◌^◌, [], ◌∷◌, length, map, None, Ok, Err, IfOk, IfSome, IfNone};
+ghost use Rattle.std.specs.Prelude.{◌≡◌, ◌*◌, ◌<◌, [], ◌∷◌, length, map, None, Ok, Err, IfOk, IfSome, IfNone};
 ghost use Rattle.std.specs.List.Sorted.{IsStrictlyIncreasing};
-ghost use Rattle.cb_dd.specs.Diagram.{Store, IsDiagram, IsNode, function_of, fulls_after};
+ghost use Rattle.cb_dd.specs.Diagram.{IsNode, function_of, fulls_after};
 ghost use Rattle.cb_ops.specs.Ops.{Grows, StandsFor, Room};
 ghost use Rattle.cb_ops.specs.Substitute.{AreNodes, image_of};
 ghost use Rattle.cb_ops.specs.Composed.{AreLower};
-ghost use Rattle.cb_boole.specs.Elimination.{Function, both, rest};
+ghost use Rattle.cb_boole.specs.Elimination.{Function, both};
 ghost use Rattle.cb_solution.specs.Solution.{AreRests, IsFalling, IsImage, IsSolution, HasRest, ImageRoom, RestsRoom, SolutionRoom, has_refused};
 ghost use Rattle.cb_solution.specs.Parts.{AreParts, AreStages, Solves, StagesRoom};
 
-mod pairs;
 mod parts;
 
 use cb_dd::{Node, Stop};
 use cb_ops::Ops;
-pub use pairs::differ;
 pub use parts::solution_of_parts;
 use std::alloc::Global;
 

@@ -1,13 +1,11 @@
 //! Elimination over a list of parts, nodes that are all to be 0: each level is eliminated from those parts alone that depend
 //! on it (bucket elimination, Dechter 1999).
 
-ghost use Rattle.std.specs.Prelude.{◌≡◌, ℕ, true, false, length, map, Err, IfOk, IfSome, IfNone, OnOk, OnErr};
-ghost use Rattle.std.specs.List.Sorted.{IsStrictlyIncreasing};
-ghost use Rattle.cb_dd.specs.Diagram.{IsNode, function_of, fulls_after};
+ghost use Rattle.std.specs.Prelude.{◌≡◌, true, false, length, Err, IfOk, IfSome, IfNone};
+ghost use Rattle.cb_dd.specs.Diagram.{IsNode};
 ghost use Rattle.cb_ops.specs.Ops.{Grows};
-ghost use Rattle.cb_boole.specs.Elimination.{Function};
 ghost use Rattle.cb_solution.specs.Solution.{IsFalling, has_refused};
-ghost use Rattle.cb_solution.specs.Parts.{AreAbsent, AreEliminated, AreParts, ArePlaces, AreSpread, AreStages, HasLeft, IsFreeOf, IsLastOf, IsOut, IsPlace, IsPlaced, PartsRoom, PlacedRoom, Solves, StepsRoom, some_one};
+ghost use Rattle.cb_solution.specs.Parts.{AreAbsent, AreEliminated, AreParts, ArePlaces, AreSpread, HasLeft, IsFreeOf, IsLastOf, IsOut, IsPlace, IsPlaced, PartsRoom, PlacedRoom, Solves, StepsRoom, some_one};
 
 use crate::{both_sides, images};
 use cb_dd::{Node, Stop};

@@ -1,7 +1,7 @@
 use Rattle.cb_elim.proofs.Inside.{seen}
 use Rattle.cb_elim.proofs.Views.{only-nodes, store-grown}
 use Rattle.cb_elim.proofs.Kept.{solve-first, solve-second, watched-grown}
-use Rattle.cb_elim.proofs.Equations.{only-then, put-same, put-solution, put-solved, put-store, put-values, solve-none}
+use Rattle.cb_elim.proofs.Equations.{only-then, put-store, put-unified, solve-none}
 use Rattle.cb_elim.proofs.Store.solve.Goals as goal
 
 pub returns-in_err-found-clause-only_nodes : goal.returns-in_err-found-clause-only_nodes
@@ -42,24 +42,9 @@ pub returns-clause-room : goal.returns-clause-room
 returns-clause-room c =
     solve-second c.args.self.now (seen c.self.inside) c.self.view_is c.requires.store c.most_general.new.ops c.most_general.ensures.grows c.args.f.0 c.args.g.0 c.most_general.ensures.room c.in-Some.images.items c.self.inside.constants (rw c.in-Some.is at c.in_ok-found.ensures.found) c.put_in.new.self.nodes (rw c.deref.ensures.value at c.put_in.ensures.room)
 
-pub returns-clause-solved : goal.returns-clause-solved
-returns-clause-solved c = λ yes.
-    put-solved c.args.self.now (seen c.self.inside) c.self.view_is c.requires.store c.args.f.0 c.args.g.0 c.requires.f c.requires.g c.most_general.new.ops c.most_general.ensures.grows c.in-Some.images.items (rw c.in-Some.is at c.in_ok-found.ensures.found)
-    c.put_in.new.self (rw c.deref.ensures.value at c.in_ok-put_in.ensures.moved) c.in_ok-put_in.ensures.values
-
-pub returns-clause-solution : goal.returns-clause-solution
-returns-clause-solution c = λ yes.
-    put-solution c.args.self.now (seen c.self.inside) c.self.view_is c.requires.store c.args.f.0 c.args.g.0 c.requires.f c.requires.g c.most_general.new.ops c.most_general.ensures.grows c.in-Some.images.items (rw c.in-Some.is at c.in_ok-found.ensures.found)
-    c.put_in.new.self (rw c.deref.ensures.value at c.in_ok-put_in.ensures.moved) c.in_ok-put_in.ensures.values
-
-pub returns-clause-slots : goal.returns-clause-slots
-returns-clause-slots c = λ yes.
-    put-same c.args.self.now (seen c.self.inside) c.self.view_is c.requires.store c.args.f.0 c.args.g.0 c.requires.f c.requires.g c.most_general.new.ops c.most_general.ensures.grows c.in-Some.images.items (rw c.in-Some.is at c.in_ok-found.ensures.found)
-    c.put_in.new.self (rw c.deref.ensures.value at c.in_ok-put_in.ensures.moved) c.in_ok-put_in.ensures.values
-
-pub returns-clause-values : goal.returns-clause-values
-returns-clause-values c = λ yes.
-    put-values c.args.self.now (seen c.self.inside) c.self.view_is c.requires.store c.args.f.0 c.args.g.0 c.requires.f c.requires.g c.most_general.new.ops c.most_general.ensures.grows c.in-Some.images.items (rw c.in-Some.is at c.in_ok-found.ensures.found)
+pub returns-clause-unified : goal.returns-clause-unified
+returns-clause-unified c = λ yes.
+    put-unified c.args.self.now (seen c.self.inside) c.self.view_is c.requires.store c.args.f.0 c.args.g.0 c.requires.f c.requires.g c.most_general.new.ops c.most_general.ensures.grows c.in-Some.images.items (rw c.in-Some.is at c.in_ok-found.ensures.found)
     c.put_in.new.self (rw c.deref.ensures.value at c.in_ok-put_in.ensures.moved) c.in_ok-put_in.ensures.values
 
 pub returns-clause-store : goal.returns-clause-store

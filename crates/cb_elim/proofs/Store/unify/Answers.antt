@@ -5,17 +5,14 @@ use Rattle.cb_solution.specs.Solution.{has_refused}
 use Rattle.cb_elim.proofs.Rooms.{room-before, room-none, unify-cause}
 use Rattle.cb_elim.proofs.Inside.{seen}
 use Rattle.cb_elim.proofs.Kept.{watched-refused}
-use Rattle.cb_elim.proofs.Equations.{same-slots, same-values, same-solution, same-solved, keeps-values, keeps-before, store-before, cut-before, not-true, stop-not-true}
+use Rattle.cb_elim.proofs.Equations.{same-node, keeps-values, keeps-before, store-before, cut-before, not-true, stop-not-true}
 use Rattle.cb_elim.proofs.Store.unify.Goals as goal
 
-pub returns-then-f-g-clause-solved : goal.returns-then-f-g-clause-solved
-returns-then-f-g-clause-solved c = λ yes. same-solved c.args.self.now c.args.f.0 c.args.g.0 c.if-f-g.true
-
-pub returns-then-f-g-clause-solution : goal.returns-then-f-g-clause-solution
-returns-then-f-g-clause-solution c = λ yes. same-solution c.args.self.now c.args.f.0 c.args.g.0 c.if-f-g.true
+pub returns-then-f-g-clause-unified : goal.returns-then-f-g-clause-unified
+returns-then-f-g-clause-unified c = λ yes. same-node c.args.self.now c.args.f.0 c.args.g.0 c.if-f-g.true
 
 pub returns-in-Ok-true-clause-moments : goal.returns-in-Ok-true-clause-moments
-returns-in-Ok-true-clause-moments c = keeps-values c.args.self.now c.solve.new.self (c.in-Ok-true.ensures.values (ap (λ (b : Bool). Ok b) c.in-Ok-true.field-0-test))
+returns-in-Ok-true-clause-moments c = keeps-values c.args.self.now c.solve.new.self (c.in-Ok-true.ensures.unified (ap (λ (b : Bool). Ok b) c.in-Ok-true.field-0-test)).values
 
 pub returns-in-Ok-false-clause-moments : goal.returns-in-Ok-false-clause-moments
 returns-in-Ok-false-clause-moments c =
@@ -45,12 +42,6 @@ pub returns-in-Err-clause-nodes : goal.returns-in-Err-clause-nodes
 returns-in-Err-clause-nodes c = λ e.
     unify-cause c.args.self.now c.solve.new.self _ c.args.f.0 c.args.g.0 (c.in-Err.ensures.only_nodes (stop-not-true (Err c.in-Err.stop) c.in-Err.stop refl)) c.in-Err.ensures.room (c.in-Err.ensures.full e)
     (c.in-Err.ensures.fulls ∙ ap (λ (r : Result Bool Stop). has_refused c.args.self.now.nodes.fulls r) e) (c.cut-in-Err.ensures.fulls ∙ ap (λ (s : Seen). s.nodes.fulls) c.self-2.view_is)
-
-pub returns-then-f-g-clause-values : goal.returns-then-f-g-clause-values
-returns-then-f-g-clause-values c = λ yes. same-values c.args.self.now
-
-pub returns-then-f-g-clause-slots : goal.returns-then-f-g-clause-slots
-returns-then-f-g-clause-slots c = λ yes. same-slots c.args.self.now
 
 pub returns-then-f-g-clause-room : goal.returns-then-f-g-clause-room
 returns-then-f-g-clause-room c = room-none _ c.args.f.0 c.args.g.0 c.args.self.now.nodes _ (omega arith)

@@ -9,7 +9,7 @@ use Rattle.cb_elim.proofs.Inside.{seen}
 use Rattle.cb_elim.proofs.Kept.{watched-cut, watched-push}
 use Rattle.cb_elim.proofs.Views.{store-grown}
 use Rattle.cb_elim.proofs.Back.{keeps-nodes}
-use Rattle.cb_elim.proofs.Slots.{variable-store, variable-range, variable-adding, variable-arguments, variable-new, store-cut}
+use Rattle.cb_elim.proofs.Slots.{variable-store, variable-new, store-cut}
 use Rattle.cb_elim.proofs.Store.variable.Goals as goal
 
 pub node-requires-clause-lo_child : goal.node-requires-clause-lo_child
@@ -43,30 +43,6 @@ returns-clause-slot c =
     let slots : c.push.new.self.items ≡ c.self.inside.slots.items ++ c.in_ok-node.node ∷ [] = grind (arith, common_steps) in
     let free : c.push-2.new.self.items ≡ c.self.inside.free.items ++ record { level = c.self.inside.drawn; slot = c.len-slot.result } ∷ [] = grind (arith, common_steps) in
     variable-new c.args.self.now (seen c.self.inside) c.self.view_is c.requires.store c.node.new.self c.node.ensures.grows c.in_ok-node.node c.in_ok-node.ensures.is_node
-    (record { at = λ p. c.in_ok-node.ensures.function p ∙ literal-is c.self.inside.ops.triples (p c.self.inside.drawn) p }) c.len-slot.result at c.push-2.new.self.items free c.push.new.self.items slots
-
-pub returns-clause-range : goal.returns-clause-range
-returns-clause-range c =
-    let at : c.len-slot.result ≡ length c.self.inside.slots.items = search rules in
-    let slots : c.push.new.self.items ≡ c.self.inside.slots.items ++ c.in_ok-node.node ∷ [] = grind (arith, common_steps) in
-    let free : c.push-2.new.self.items ≡ c.self.inside.free.items ++ record { level = c.self.inside.drawn; slot = c.len-slot.result } ∷ [] = grind (arith, common_steps) in
-    variable-range c.args.self.now (seen c.self.inside) c.self.view_is c.requires.store c.node.new.self c.node.ensures.grows c.in_ok-node.node c.in_ok-node.ensures.is_node
-    (record { at = λ p. c.in_ok-node.ensures.function p ∙ literal-is c.self.inside.ops.triples (p c.self.inside.drawn) p }) c.len-slot.result at c.push-2.new.self.items free c.push.new.self.items slots
-
-pub returns-clause-stays : goal.returns-clause-stays
-returns-clause-stays c =
-    let at : c.len-slot.result ≡ length c.self.inside.slots.items = search rules in
-    let slots : c.push.new.self.items ≡ c.self.inside.slots.items ++ c.in_ok-node.node ∷ [] = grind (arith, common_steps) in
-    let free : c.push-2.new.self.items ≡ c.self.inside.free.items ++ record { level = c.self.inside.drawn; slot = c.len-slot.result } ∷ [] = grind (arith, common_steps) in
-    variable-adding c.args.self.now (seen c.self.inside) c.self.view_is c.requires.store c.node.new.self c.node.ensures.grows c.in_ok-node.node c.in_ok-node.ensures.is_node
-    (record { at = λ p. c.in_ok-node.ensures.function p ∙ literal-is c.self.inside.ops.triples (p c.self.inside.drawn) p }) c.len-slot.result at c.push-2.new.self.items free c.push.new.self.items slots
-
-pub returns-clause-arguments : goal.returns-clause-arguments
-returns-clause-arguments c =
-    let at : c.len-slot.result ≡ length c.self.inside.slots.items = search rules in
-    let slots : c.push.new.self.items ≡ c.self.inside.slots.items ++ c.in_ok-node.node ∷ [] = grind (arith, common_steps) in
-    let free : c.push-2.new.self.items ≡ c.self.inside.free.items ++ record { level = c.self.inside.drawn; slot = c.len-slot.result } ∷ [] = grind (arith, common_steps) in
-    variable-arguments c.args.self.now (seen c.self.inside) c.self.view_is c.requires.store c.node.new.self c.node.ensures.grows c.in_ok-node.node c.in_ok-node.ensures.is_node
     (record { at = λ p. c.in_ok-node.ensures.function p ∙ literal-is c.self.inside.ops.triples (p c.self.inside.drawn) p }) c.len-slot.result at c.push-2.new.self.items free c.push.new.self.items slots
 
 pub returns-clause-store : goal.returns-clause-store

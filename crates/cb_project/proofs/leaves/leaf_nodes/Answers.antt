@@ -71,3 +71,13 @@ returns-clause-room c = whole-room c.args.ops.now c.loop-i.ops c.args.values.now
 
 pub returns-in_default-clause-room : goal.returns-in_default-clause-room
 returns-in_default-clause-room c = whole-room c.args.ops.now c.args.ops.now c.args.values.now 0 (omega arith) (λ ls d. omega arith)
+
+pub returns-clause-form : goal.returns-clause-form
+returns-clause-form c =
+    let i = c.loop-i.invariant in
+    record {
+      nodes = i.nodes;
+      as_many = omega (arith, i.count, i.all, c.loop-i-test.false, c.loop-i.auto.i-end);
+      parametric = i.stage.gen;
+      own = i.stage.own;
+    }

@@ -24,11 +24,10 @@ returns-in_err-nodes-clause-room c = renamed-room c.args.ops.now c.parameters.ne
 pub returns-clause-room : goal.returns-clause-room
 returns-clause-room c = renamed-room c.args.ops.now c.parameters.new.ops c.put_in.new.ops c.parameters.ensures.grows c.args.constants c.args.first c.args.values.now c.args.names.now.entries c.in_ok-images.images.items c.requires.nodes c.requires.names c.in_ok-images.ensures.images c.parameters.ensures.room (put-room-at c.args.values.now _ c.in_ok-images.images.items c.parameters.new.ops c.put_in.new.ops c.deref.ensures.value c.put_in.ensures.room)
 
-pub returns-clause-parametric : goal.returns-clause-parametric
-returns-clause-parametric c = renamed-parametric c.args.ops.now c.parameters.new.ops c.put_in.new.ops c.parameters.ensures.grows c.args.constants c.args.first c.args.values.now c.args.names.now.entries c.in_ok-images.images.items c.requires.nodes c.requires.names c.in_ok-images.ensures.images c.in_ok-nodes.nodes.items (put-in-at c.parameters.new.ops.triples c.put_in.new.ops.triples _ c.in_ok-images.images.items c.args.values.now c.in_ok-nodes.nodes.items c.deref.ensures.value c.in_ok-nodes.ensures.put_in)
-
-pub returns-clause-own : goal.returns-clause-own
-returns-clause-own c = renamed-own c.args.ops.now c.parameters.new.ops c.put_in.new.ops c.parameters.ensures.grows c.args.constants c.args.first c.args.values.now c.args.names.now.entries c.in_ok-images.images.items c.requires.nodes c.requires.names c.in_ok-images.ensures.images c.in_ok-nodes.nodes.items (put-in-at c.parameters.new.ops.triples c.put_in.new.ops.triples _ c.in_ok-images.images.items c.args.values.now c.in_ok-nodes.nodes.items c.deref.ensures.value c.in_ok-nodes.ensures.put_in)
-
-pub returns-clause-as_many : goal.returns-clause-as_many
-returns-clause-as_many c = renamed-as-many c.args.ops.now c.parameters.new.ops c.put_in.new.ops c.parameters.ensures.grows c.args.constants c.args.first c.args.values.now c.args.names.now.entries c.in_ok-images.images.items c.requires.nodes c.requires.names c.in_ok-images.ensures.images c.in_ok-nodes.nodes.items (put-in-at c.parameters.new.ops.triples c.put_in.new.ops.triples _ c.in_ok-images.images.items c.args.values.now c.in_ok-nodes.nodes.items c.deref.ensures.value c.in_ok-nodes.ensures.put_in)
+pub returns-clause-form : goal.returns-clause-form
+returns-clause-form c = record {
+  nodes = c.in_ok-nodes.ensures.put_in.nodes;
+  as_many = renamed-as-many c.args.ops.now c.parameters.new.ops c.put_in.new.ops c.parameters.ensures.grows c.args.constants c.args.first c.args.values.now c.args.names.now.entries c.in_ok-images.images.items c.requires.nodes c.requires.names c.in_ok-images.ensures.images c.in_ok-nodes.nodes.items (put-in-at c.parameters.new.ops.triples c.put_in.new.ops.triples _ c.in_ok-images.images.items c.args.values.now c.in_ok-nodes.nodes.items c.deref.ensures.value c.in_ok-nodes.ensures.put_in);
+  parametric = renamed-parametric c.args.ops.now c.parameters.new.ops c.put_in.new.ops c.parameters.ensures.grows c.args.constants c.args.first c.args.values.now c.args.names.now.entries c.in_ok-images.images.items c.requires.nodes c.requires.names c.in_ok-images.ensures.images c.in_ok-nodes.nodes.items (put-in-at c.parameters.new.ops.triples c.put_in.new.ops.triples _ c.in_ok-images.images.items c.args.values.now c.in_ok-nodes.nodes.items c.deref.ensures.value c.in_ok-nodes.ensures.put_in);
+  own = renamed-own c.args.ops.now c.parameters.new.ops c.put_in.new.ops c.parameters.ensures.grows c.args.constants c.args.first c.args.values.now c.args.names.now.entries c.in_ok-images.images.items c.requires.nodes c.requires.names c.in_ok-images.ensures.images c.in_ok-nodes.nodes.items (put-in-at c.parameters.new.ops.triples c.put_in.new.ops.triples _ c.in_ok-images.images.items c.args.values.now c.in_ok-nodes.nodes.items c.deref.ensures.value c.in_ok-nodes.ensures.put_in);
+}

@@ -8,7 +8,7 @@ use Rattle.cb_unify.proofs.fresh.unknown.Goals as goal
 pub returns-in_ok-slot-in-Bool-clause-unknown : goal.returns-in_ok-slot-in-Bool-clause-unknown
 returns-in_ok-slot-in-Bool-clause-unknown c =
     subst (λ (z : Sort). IsUnknown c.args.store.now c.variable.new.self z (shown.Leaf c.in_ok-slot-in-Bool.slot.0)) (sym c.in-Bool.is)
-    (unknown-bool c.args.store.now c.variable.new.self c.requires.store c.in_ok-slot-in-Bool.slot.0 c.in_ok-slot-in-Bool.ensures.slot c.in_ok-slot-in-Bool.ensures.range c.in_ok-slot-in-Bool.ensures.stays)
+    (unknown-bool c.args.store.now c.variable.new.self c.requires.store c.in_ok-slot-in-Bool.slot.0 c.in_ok-slot-in-Bool.ensures.slot c.in_ok-slot-in-Bool.ensures.slot.range c.in_ok-slot-in-Bool.ensures.slot.stays)
 
 pub returns-in-Bus-clause-unknown : goal.returns-in-Bus-clause-unknown
 returns-in-Bus-clause-unknown c = subst (λ (z : Sort). IsUnknown c.args.store.now c.args.store.now z shown.BusVar) (sym c.in-Bus.is) (unknown-bus c.args.store.now)
