@@ -21,7 +21,7 @@ use Rattle.cb_ops.specs.declared.calls.Left.TheVariants as left
 use Rattle.cb_ops.specs.declared.calls.Turn.{Turn}
 use Rattle.cb_ops.specs.declared.calls.Turn.TheVariants as turn
 use Rattle.cb_ops.specs.Ops.{Grows, IsIte, IsXor, DependsOn, DependAll, Room, HasCause}
-use Rattle.cb_ops.specs.Waiting.{combined, value_of, IsValue, AreCalled, IsPart, IsHalf, HasLeft, Waits, IsAnswered, IsOpen, IsPut, IsClosed, AskedHigh, Asked, Resumed, bit_of, fulls_after_turn}
+use Rattle.cb_ops.specs.Waiting.{combined, value_of, IsValue, AreCalled, IsPart, IsHalf, HasLeft, Waits, IsAnswered, IsOpen, IsPut, level_of_call, IsClosed, AskedHigh, Asked, Resumed, bit_of, fulls_after_turn}
 use Rattle.cb_ops.proofs.Ite.{put-id, essential, grown-node, grown-function, grown-level, grown-child, grown-cofactor, Grows-same, Grows-then, grown-depends, cofactor-depends, without, without-lt, listed, least-three}
 
 pub combined-all : (o : Operation) (b c x y z w : Bool) → b ≡ c → x ≡ z → y ≡ w → combined o b x y ≡ combined o c z w
@@ -195,7 +195,7 @@ abbrev pub rests : List ℕ → ℕ
 rests ks = 0
 
 -- the least level of a call is among those on which it depends
-least-listed : (ts : List Triple) → IsDiagram ts → (c : Choice) (l : ℕ) (ks : List ℕ) → AreCalled ts c → l ≡ min (min (level_of ts c.f.0) (level_of ts c.g.0)) (level_of ts c.h.0) → l < 2 ^ 32 → Depends ts c ks → list_any (nat_eq l) ks ≡ true
+least-listed : (ts : List Triple) → IsDiagram ts → (c : Choice) (l : ℕ) (ks : List ℕ) → AreCalled ts c → l ≡ level_of_call ts c → l < 2 ^ 32 → Depends ts c ks → list_any (nat_eq l) ks ≡ true
 least-listed ts is c l ks w least small d = elim (least-three l (level_of ts c.f.0) (level_of ts c.g.0) (level_of ts c.h.0) least) [
   | inl p ↦ subst (λ k. list_any (nat_eq k) ks ≡ true) (sym p) (listed ts is c.f.0 ks w.f (omega arith) d.0)
   | inr q ↦ elim q [
@@ -212,14 +212,14 @@ level-inner ts is n w two = elim (kind_of ts n w) [
 ]
 
 -- the least level of a call that isn't plain
-open-level : (ts : List Triple) → IsDiagram ts → (c : Choice) → AreCalled ts c → IsOpen c → min (min (level_of ts c.f.0) (level_of ts c.g.0)) (level_of ts c.h.0) < 2 ^ 32
+open-level : (ts : List Triple) → IsDiagram ts → (c : Choice) → AreCalled ts c → IsOpen c → level_of_call ts c < 2 ^ 32
 open-level ts is c w (inl two) = let l = level-inner ts is c.f.0 w.f two in omega arith
 open-level ts is c w (inr two) = let l = level-inner ts is c.g.0 w.g two in omega arith
 
 -- a call that isn't plain may make a node
 pub open-room : (ts : List Triple) → IsDiagram ts → (c : Choice) (ks : List ℕ) → AreCalled ts c → IsOpen c → Depends ts c ks → rests ks + 1 ≤ asks ks
 open-room ts is c ks w opens d =
-    let l : ℕ = min (min (level_of ts c.f.0) (level_of ts c.g.0)) (level_of ts c.h.0) in
+    let l : ℕ = level_of_call ts c in
     let k : ℕ = length (without l ks) + 1 in
     let one : 1 ≤ k = omega arith in
     let m : 2 ^ k ≤ 2 ^ length ks = pow_mono (without-lt l ks (least-listed ts is c l ks w refl (open-level ts is c w opens) d)) in
@@ -271,9 +271,6 @@ closed-room y ks = within y.left
 
 -- ---- the end
 
-abbrev pub least_level : List Triple → Choice → ℕ
-least_level ts c = min (min (level_of ts c.f.0) (level_of ts c.g.0)) (level_of ts c.h.0)
-
 -- the work that a call may take, and what a waiting call still may
 abbrev pub work : ℕ → ℕ
 work n = 4 * 2 ^ n - 3
@@ -286,7 +283,7 @@ abbrev pub work_left : Pending → ℕ
 work_left x = left_work x.level x.left
 
 abbrev pub turn_work : List Triple → Turn → ℕ
-turn_work ts (turn.Ask c) = work (2 ^ 32 - least_level ts c)
+turn_work ts (turn.Ask c) = work (2 ^ 32 - level_of_call ts c)
 turn_work ts (turn.Answer r) = 0
 
 -- the work that is still to be done
@@ -297,9 +294,9 @@ work-last : (xs : List Pending) (x : Pending) → sum_by work_left (xs ++ x ∷ 
 work-last xs x = sum_by_push work_left xs x
 
 -- a cofactor takes less than half the work
-work-part : (ts : List Triple) (level : ℕ) (bit : Bool) (c d : Choice) → level < 2 ^ 32 → IsPart ts level bit c d → work (2 ^ 32 - least_level ts d) + 3 ≤ 2 * 2 ^ (2 ^ 32 - level)
+work-part : (ts : List Triple) (level : ℕ) (bit : Bool) (c d : Choice) → level < 2 ^ 32 → IsPart ts level bit c d → work (2 ^ 32 - level_of_call ts d) + 3 ≤ 2 * 2 ^ (2 ^ 32 - level)
 work-part ts level bit c d small p =
-    let n : ℕ = 2 ^ 32 - least_level ts d in
+    let n : ℕ = 2 ^ 32 - level_of_call ts d in
     let k : ℕ = 2 ^ 32 - level - 1 in
     let e : k + 1 ≡ 2 ^ 32 - level = omega arith in
     let le : n ≤ k = omega (arith, p.f.above, p.g.above, p.h.above) in
@@ -391,9 +388,9 @@ module _ (s t : Store) (from c : Choice) (xs ys : List Pending) (g : Going s t f
   put-work : (bit : Bool) (d : Choice) → IsPut t.triples xs ys c bit d → work_of t.triples ys (turn.Ask d) < work_of t.triples xs (turn.Ask c)
   put-work bit d p =
       let e : sum_by work_left ys ≡ sum_by work_left xs + work_left p.x = ap (sum_by work_left) p.items ∙ work-last xs p.x in
-      let m : work (2 ^ 32 - least_level t.triples d) + 3 ≤ 2 * 2 ^ (2 ^ 32 - p.x.level) = work-part t.triples p.x.level bit c d p.waits.small p.part in
-      let l : p.x.level ≡ least_level t.triples c = p.waits.least ∙ ap (least_level t.triples) p.call in
-      let k : 2 ^ (2 ^ 32 - p.x.level) ≡ 2 ^ (2 ^ 32 - least_level t.triples c) = ap (λ z. 2 ^ (2 ^ 32 - z)) l in
+      let m : work (2 ^ 32 - level_of_call t.triples d) + 3 ≤ 2 * 2 ^ (2 ^ 32 - p.x.level) = work-part t.triples p.x.level bit c d p.waits.small p.part in
+      let l : p.x.level ≡ level_of_call t.triples c = p.waits.least ∙ ap (level_of_call t.triples) p.call in
+      let k : 2 ^ (2 ^ 32 - p.x.level) ≡ 2 ^ (2 ^ 32 - level_of_call t.triples c) = ap (λ z. 2 ^ (2 ^ 32 - z)) l in
       let here : work_left p.x ≤ 2 * 2 ^ (2 ^ 32 - p.x.level) - 1 = left-most p.x.level p.x.left in
       let q : 0 < 2 ^ (2 ^ 32 - p.x.level) = pow_pos (2 ^ 32 - p.x.level) in
       omega (arith, e, m, k, here, q)
@@ -423,7 +420,7 @@ module _ (s t : Store) (from c : Choice) (xs ys : List Pending) (g : Going s t f
         subst (λ (w : Store). work_of w.triples ys (turn.Ask d) < work_of t.triples xs (turn.Ask c)) (sym h.0) (put-work h.1.0 d (subst (λ (w : Store). IsPut w.triples xs ys c h.1.0 d) h.0 h.1.1))
     asked-work (turn.Answer r) h =
         let e : sum_by work_left ys ≡ sum_by work_left xs = ap (sum_by work_left) h.items in
-        let q : 0 < 2 ^ (2 ^ 32 - least_level t.triples c) = pow_pos (2 ^ 32 - least_level t.triples c) in
+        let q : 0 < 2 ^ (2 ^ 32 - level_of_call t.triples c) = pow_pos (2 ^ 32 - level_of_call t.triples c) in
         omega (arith, e, q)
 
 module _ (s t : Store) (from : Choice) (xs ys zs : List Pending) (x : Pending) (r : Node) (last : xs ≡ zs ++ x ∷ []) (g : Going s t from xs (turn.Answer r)) where
@@ -447,7 +444,7 @@ module _ (s t : Store) (from : Choice) (xs ys zs : List Pending) (x : Pending) (
 
   -- a call that was put on the list again has the level that it had
   put-level : (d : Choice) (p : IsPut t.triples zs ys x.call true d) → p.x.level ≡ x.level
-  put-level d p = p.waits.least ∙ ap (least_level t.triples) p.call ∙ sym ended.1.least
+  put-level d p = p.waits.least ∙ ap (level_of_call t.triples) p.call ∙ sym ended.1.least
 
   -- the call waits for its other cofactor
   other-going : (d : Choice) → bit_of x.left ≡ false → IsPut t.triples zs ys x.call true d → Going s t from ys (turn.Ask d)
@@ -466,7 +463,7 @@ module _ (s t : Store) (from : Choice) (xs ys zs : List Pending) (x : Pending) (
   other-work : (d : Choice) → bit_of x.left ≡ false → IsPut t.triples zs ys x.call true d → work_of t.triples ys (turn.Ask d) < work_of t.triples xs (turn.Answer r)
   other-work d first p =
       let e : sum_by work_left ys ≡ sum_by work_left zs + work_left p.x = ap (sum_by work_left) p.items ∙ work-last zs p.x in
-      let m : work (2 ^ 32 - least_level t.triples d) + 3 ≤ 2 * 2 ^ (2 ^ 32 - x.level) = work-part t.triples x.level true x.call d ended.1.small (subst (λ l. IsPart t.triples l true x.call d) (put-level d p) p.part) in
+      let m : work (2 ^ 32 - level_of_call t.triples d) + 3 ≤ 2 * 2 ^ (2 ^ 32 - x.level) = work-part t.triples x.level true x.call d ended.1.small (subst (λ l. IsPart t.triples l true x.call d) (put-level d p) p.part) in
       let low : work_left p.x ≡ 1 = left-second p.x.level p.x.left p.side in
       let high : work_left x ≡ 2 * 2 ^ (2 ^ 32 - x.level) - 1 = left-first x.level x.left first in
       let q : 0 < 2 ^ (2 ^ 32 - x.level) = pow_pos (2 ^ 32 - x.level) in
@@ -475,7 +472,7 @@ module _ (s t : Store) (from : Choice) (xs ys zs : List Pending) (x : Pending) (
   module _ (u : Store) where
     pub going-resumed : Grows t u → IsDiagram u.triples → (v : Turn) → u.fulls ≡ t.fulls → Resumed t u zs ys x v → Going s u from ys v
     going-resumed tu is (turn.Ask d) same h =
-        subst (λ (w : Store). Going s w from ys (turn.Ask d)) (sym h.0) (other-going d h.1 (subst (λ (w : Store). IsPut w.triples zs ys x.call true d) h.0 h.2))
+        subst (λ (w : Store). Going s w from ys (turn.Ask d)) (sym h.1.0) (other-going d h.0 (subst (λ (w : Store). IsPut w.triples zs ys x.call true d) h.1.0 h.1.1))
     going-resumed tu is (turn.Answer n) same h =
         let chained : Chain u.triples from zs x.call = chain-grown t u tu from zs x.call ended.0 in
         record {
@@ -492,7 +489,7 @@ module _ (s t : Store) (from : Choice) (xs ys zs : List Pending) (x : Pending) (
 
     pub resumed-work : (v : Turn) → Resumed t u zs ys x v → work_of u.triples ys v < work_of t.triples xs (turn.Answer r)
     resumed-work (turn.Ask d) h =
-        subst (λ (w : Store). work_of w.triples ys (turn.Ask d) < work_of t.triples xs (turn.Answer r)) (sym h.0) (other-work d h.1 (subst (λ (w : Store). IsPut w.triples zs ys x.call true d) h.0 h.2))
+        subst (λ (w : Store). work_of w.triples ys (turn.Ask d) < work_of t.triples xs (turn.Answer r)) (sym h.1.0) (other-work d h.0 (subst (λ (w : Store). IsPut w.triples zs ys x.call true d) h.1.0 h.1.1))
     resumed-work (turn.Answer n) h =
         let e : sum_by work_left ys ≡ sum_by work_left zs = ap (sum_by work_left) h.items in
         omega (arith, e, work-before, left-some x.level x.left)

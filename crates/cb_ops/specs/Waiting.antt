@@ -56,11 +56,15 @@ abbrev pub HasLeft : List Triple → ℕ → Choice → Left → Type 0
 HasLeft ts level c (left.High d) = IsPart ts level true c d
 HasLeft ts level c (left.Low r) = IsHalf ts level false c r.0
 
+-- the least of the levels of a call's nodes
+abbrev pub level_of_call : List Triple → Choice → ℕ
+level_of_call ts c = min (min (level_of ts c.f.0) (level_of ts c.g.0)) (level_of ts c.h.0)
+
 -- a call waits at the least of its levels
 pub record Waits (ts : List Triple) (x : Pending) : Type 0 where
   pub call : AreCalled ts x.call
   pub small : x.level < 2 ^ 32
-  pub least : x.level ≡ min (min (level_of ts x.call.f.0) (level_of ts x.call.g.0)) (level_of ts x.call.h.0)
+  pub least : x.level ≡ level_of_call ts x.call
   pub left : HasLeft ts x.level x.call x.left
 
 -- the node answers the call
@@ -101,7 +105,7 @@ Asked old new before after c (turn.Ask d) = (new ≡ old) × ((bit : Bool) × Is
 -- the waiting call had the answer with the bit 0, and waits for the other one; or it was answered
 abbrev pub Resumed : Store → Store → List Pending → List Pending → Pending → Turn → Type 0
 Resumed old new before after top (turn.Answer r) = IsClosed old new before after top.call r.0
-Resumed old new before after top (turn.Ask d) = (new ≡ old) × (bit_of top.left ≡ false) × IsPut new.triples before after top.call true d
+Resumed old new before after top (turn.Ask d) = (bit_of top.left ≡ false) × AskedHigh old new before after top.call (turn.Ask d)
 
 -- the number of refusals for nodes after a turn
 abbrev pub fulls_after_turn : ℕ → Result Turn Stop → ℕ

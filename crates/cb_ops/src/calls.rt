@@ -4,7 +4,7 @@ ghost use Rattle.cb_model.specs.Bits.{xor};
 ghost use Rattle.cb_dd.specs.Diagram.{IsDiagram, IsNode, function_of, level_of, fulls_after};
 ghost use Rattle.cb_ops.specs.Ops.{Grows, StandsFor, IsIte, IsXor, IsCofactor, Room, HasCause};
 ghost use Rattle.cb_ops.specs.Makes.{Makes};
-ghost use Rattle.cb_ops.specs.Waiting.{AreCalled, Asked, AskedHigh, Resumed, Waits, IsHalf, IsAnswered, IsOpen, IsPart, IsValue, bit_of, fulls_after_turn};
+ghost use Rattle.cb_ops.specs.Waiting.{AreCalled, Asked, AskedHigh, Resumed, Waits, IsHalf, IsAnswered, IsOpen, IsPart, IsValue, bit_of, level_of_call, fulls_after_turn};
 
 use crate::Ops;
 use crate::memos::{else_side, then_side};
@@ -297,7 +297,7 @@ impl Ops {
     // The call with the two bits at a level that is at most those of its nodes.
     fn sides(&self, call: Choice, level: u64) -> (Choice, Choice)
         requires call { AreCalled self.now.triples call }
-        requires level { level ≤ min (min (level_of self.now.triples call.f.0) (level_of self.now.triples call.g.0)) (level_of self.now.triples call.h.0) }
+        requires level { level ≤ level_of_call self.now.triples call }
         requires small { level < 2 ^ 32 }
         ensures low { IsPart self.now.triples level false call result.0 }
         ensures high { IsPart self.now.triples level true call result.1 }
@@ -325,7 +325,7 @@ impl Ops {
     fn least_level(&self, call: Choice) -> u64
         requires call { AreCalled self.now.triples call }
         requires inner { (2 ≤ call.f.0) ⊎ (2 ≤ call.g.0) }
-        ensures least { result ≡ min (min (level_of self.now.triples call.f.0) (level_of self.now.triples call.g.0)) (level_of self.now.triples call.h.0) }
+        ensures least { result ≡ level_of_call self.now.triples call }
         ensures small { result < 2 ^ 32 }
     {
         self.level(call.f)

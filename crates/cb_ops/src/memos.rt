@@ -14,12 +14,13 @@ use cb_dd::Node;
 use std::hash::{Hash, Hasher};
 use std::mem;
 
-/// How many answers a memo holds at most; in a store of more than eight times as many nodes it holds an eighth as many as
-/// there are nodes. It begins empty and its room grows by four as it fills; when it is full a new one begins, and the one
-/// before it is still looked up until the new one has a sixteenth as many answers. So the answers found last are never
-/// lost: without that, an exclusive or of two diagrams of 150,000 levels each comes to no end.
+/// How many answers a memo holds at most; in a store of more than eight times as many nodes it holds an eighth as many
+/// as there are nodes. It begins empty and its room grows by four as it fills; when it is full a new one begins, and the
+/// one before it is still looked up until the new one has a sixteenth as many answers. So the answers found last are
+/// never lost: without that, an exclusive or of two diagrams of 150,000 levels each comes to no end.
 ///
-/// The number is one of the rooms that a memo grows through; a smaller memo finds less, and a greater one leaves the cache.
+/// The number is one of the rooms that a memo grows through; a smaller memo finds less, and a greater one leaves the
+/// cache.
 const MEMO_ROOM: usize = 36_864;
 
 /// For how many nodes of a large store a memo holds one answer.
@@ -144,7 +145,8 @@ impl Ops {
         let _ = self.pairs.insert(pair, answer);
     }
 
-    // Makes room for an answer of `ite`: where the memo is full, a new one begins. The answer is how many nodes there are.
+    // Makes room for an answer of `ite`: where the memo is full, a new one begins. The answer is how many nodes there
+    // are.
     fn make_room(&mut self) -> usize
         ensures same { self.new ≡ self.old }
         ensures count { result ≡ length self.new.triples }
