@@ -114,7 +114,7 @@ pub leads-on : (cs : List Stored) (r e : ℕ) (c : Stored) (to : Ref) → LeadsT
 leads-on cs r e c to arrives is l = goes c to is l arrives
 leads-on cs r e c to (goes d x a b k) is l = goes d x a b (leads-on cs x.0 e c to k is l)
 
-leads-value : (w : Bits) (g : Reading) (cs : List Stored) → CellsHold w cs g → (r e : ℕ) → LeadsTo cs r e → g r ≡ g e
+pub leads-value : (w : Bits) (g : Reading) (cs : List Stored) → CellsHold w cs g → (r e : ℕ) → LeadsTo cs r e → g r ≡ g e
 leads-value w g cs h r e arrives = refl
 leads-value w g cs h r e (goes c to is l k) = link-value w g r c to l (h r c is) ∙ leads-value w g cs h to.0 e k
 

@@ -1,18 +1,18 @@
 -- Cells that become one.
-use Rattle.std.proofs.Common.{◌≡◌, ◌⊎◌, inl, inr, ℕ, zero, suc, ◌+◌, ◌^◌, ◌<◌, ◌≤◌, ◌↔◌, Bool, List, [], ◌∷◌, ◌++◌, length, map, Some, None, IsTrue, refl, sym, ap, subst, ◌∙◌, arith, length-append}
+use Rattle.std.proofs.Common.{◌≡◌, inl, inr, ℕ, zero, suc, ◌+◌, ◌^◌, ◌<◌, ◌≤◌, ◌↔◌, Bool, List, [], ◌∷◌, ◌++◌, length, map, Some, None, IsTrue, refl, sym, ap, subst, ◌∙◌, arith, length-append}
 use Rattle.std.specs.Prelude.{slice_get, slice_set}
 use Rattle.std.proofs.lemmas.Bool.{cases_eq}
 use Rattle.std.proofs.lemmas.Option.{slice_get_within}
 use Rattle.std.proofs.lemmas.List.{length-set}
 use Rattle.cb_model.specs.declared.Sort.{Sort}
 use Rattle.cb_model.specs.Bits.{Bits, Each, numbers_from}
-use Rattle.cb_model.specs.Values.{Ground, Int, Name, Grounds, Last, More, grounds, Sorts, Fits}
+use Rattle.cb_model.specs.Values.{Ground, Int, Name, Grounds, Last, More, grounds, Fits}
 use Rattle.cb_model.specs.Derivation.{Outermost, outermost, ABit, Empty, NotEmpty, AnInt, ANode}
 use Rattle.cb_heap.specs.declared.Stored.{Stored}
 use Rattle.cb_heap.specs.declared.Stored.TheVariants as cell
 use Rattle.cb_heap.specs.declared.Ref.{Ref}
 use Rattle.cb_heap.specs.Reading.{Reading, CellHolds, IsReading, Agree, AgreeBits, side_by_side, IsUnbound, form_of}
-use Rattle.cb_heap.specs.Links.{IsLinked, LinkFalls, IsSolid, link_of, IsLast}
+use Rattle.cb_heap.specs.Links.{IsLinked, LinkFalls, IsSolid, link_of}
 use Rattle.cb_heap.specs.Heap.{Terms}
 use Rattle.cb_heap.specs.Moments.{KeepsMoments}
 use Rattle.cb_heap.proofs.Steps.{some-inj, no_some, get-set-same, get-set-other, bound-step, same-step, leaf-left, cons-left, node-left, form-tells, one-sort}
@@ -394,53 +394,6 @@ is-true b e = e
 
 pub is-false : (b : Bool) → b ≡ Bool.false → IsTrue b → ⊥
 is-false b e h = let x : b ≡ Bool.true = h in cc
-
--- ---- the exits of `join_pair`
-
-value-ends : (ss : List Sort) (cs : List Stored) (l r e f : ℕ) → IsLast cs l e → IsLast cs r f → (t : Sorts) (w : Bits) (g : Reading) → IsReading t w ss cs g → (g l ≡ g r) ↔ (g e ≡ g f)
-value-ends ss cs l r e f a b t w g q = (λ x. sym (a.value w g q.holds) ∙ x ∙ b.value w g q.holds, λ x. a.value w g q.holds ∙ x ∙ sym (b.value w g q.holds))
-
-pub exit-skip : (ss : List Sort) (cs : List Stored) (ps ls : List (ℕ × ℕ)) (l r e f : ℕ) → IsLinked cs → IsWithin cs ps → IsLast cs l e → IsLast cs r f → e ≡ f → Equated ss cs ps ls l r cs ps ls
-exit-skip ss cs ps ls l r e f h wi a b same = record {
-  joined = λ t w g. (λ p. (p.0, p.1.1, p.2), λ q. (q.0, ((value-ends ss cs l r e f a b t w g q.0).1 (ap g same), q.1), q.2));
-  linked = h;
-  within = wi;
-  keeps = record {
-    sorted = λ t o. o;
-    slots = λ n a b. (a, b);
-    rises = λ n k o. o;
-    fewer = omega arith;
-  };
-  less = omega arith;
-}
-
-pair-ends : (a b e f : ℕ) (p : ℕ × ℕ) → (p ≡ (e, f)) ⊎ (p ≡ (f, e)) → (g : Reading) → (g e ≡ g f) ↔ (g p.0 ≡ g p.1)
-pair-ends a b e f p (inl h) g = (λ x. ap (λ (q : ℕ × ℕ). g q.0) h ∙ x ∙ sym (ap (λ (q : ℕ × ℕ). g q.1) h), λ x. sym (ap (λ (q : ℕ × ℕ). g q.0) h) ∙ x ∙ ap (λ (q : ℕ × ℕ). g q.1) h)
-pair-ends a b e f p (inr h) g = (λ x. ap (λ (q : ℕ × ℕ). g q.0) h ∙ sym x ∙ sym (ap (λ (q : ℕ × ℕ). g q.1) h), λ x. sym (ap (λ (q : ℕ × ℕ). g q.1) h) ∙ sym x ∙ ap (λ (q : ℕ × ℕ). g q.0) h)
-
-pub exit-equated : (ss : List Sort) (cs : List Stored) (ps ls : List (ℕ × ℕ)) (l r e f : ℕ) (p : ℕ × ℕ) (cs' : List Stored) (ps' ls' : List (ℕ × ℕ)) → IsLast cs l e → IsLast cs r f → (p ≡ (e, f)) ⊎ (p ≡ (f, e)) →
-    Equated ss cs ps ls p.0 p.1 cs' ps' ls' → Equated ss cs ps ls l r cs' ps' ls'
-exit-equated ss cs ps ls l r e f p cs' ps' ls' a b h q = record {
-  joined = λ t w g. (
-    λ x. (q.joined t w g).0 (x.0, ((pair-ends l r e f p h g).0 ((value-ends ss cs l r e f a b t w g x.0).0 x.1.0), x.1.1), x.2),
-    λ y. let x = (q.joined t w g).1 y in (x.0, ((value-ends ss cs l r e f a b t w g x.0).1 ((pair-ends l r e f p h g).1 x.1.0), x.1.1), x.2),
-  );
-  linked = q.linked;
-  within = q.within;
-  keeps = q.keeps;
-  less = q.less;
-}
-
-pub exit-clashes : (ss : List Sort) (cs : List Stored) (l r e f : ℕ) (p : ℕ × ℕ) → IsLast cs l e → IsLast cs r f → (p ≡ (e, f)) ⊎ (p ≡ (f, e)) → Clashes ss cs p.0 p.1 → Clashes ss cs l r
-exit-clashes ss cs l r e f p a b h n t w g q x = n t w g q ((pair-ends l r e f p h g).0 ((value-ends ss cs l r e f a b t w g q).0 x))
-
-pub pair-there : (cs : List Stored) (l r e f : ℕ) (p : ℕ × ℕ) → IsLast cs l e → IsLast cs r f → (p ≡ (e, f)) ⊎ (p ≡ (f, e)) → (p.0 < length cs) × (p.1 < length cs)
-pair-there cs l r e f p a b (inl h) = subst (λ (q : ℕ × ℕ). (q.0 < length cs) × (q.1 < length cs)) (sym h) (slice_get_within cs e a.cell a.there, slice_get_within cs f b.cell b.there)
-pair-there cs l r e f p a b (inr h) = subst (λ (q : ℕ × ℕ). (q.0 < length cs) × (q.1 < length cs)) (sym h) (slice_get_within cs f b.cell b.there, slice_get_within cs e a.cell a.there)
-
-pub pair-both : (cs : List Stored) (l r e f : ℕ) (p : ℕ × ℕ) → IsLast cs l e → IsLast cs r f → (p ≡ (e, f)) ⊎ (p ≡ (f, e)) → IsEnd cs p.0 × IsEnd cs p.1
-pair-both cs l r e f p a b (inl h) = subst (λ (q : ℕ × ℕ). IsEnd cs q.0 × IsEnd cs q.1) (sym h) ((a.cell, a.there, a.no_link), (b.cell, b.there, b.no_link))
-pair-both cs l r e f p a b (inr h) = subst (λ (q : ℕ × ℕ). IsEnd cs q.0 × IsEnd cs q.1) (sym h) ((b.cell, b.there, b.no_link), (a.cell, a.there, a.no_link))
 
 -- ---- the loop
 

@@ -1,3 +1,4 @@
 pub mod Joins
 pub mod Ways
 pub mod Follow
+pub mod Shorten

@@ -3,11 +3,14 @@ use Rattle.std.specs.Prelude.{◌≡◌, ◌↔◌, ℕ, suc, ◌+◌, ◌<◌, 
 use Rattle.cb_model.specs.declared.Sort.{Sort}
 use Rattle.cb_model.specs.Bits.{Bits, Each}
 use Rattle.cb_model.specs.Values.{Sorts}
+use Rattle.cb_heap.specs.declared.Ref.{Ref}
 use Rattle.cb_heap.specs.declared.Stored.{Stored}
 use Rattle.cb_heap.specs.declared.Stored.TheVariants as cell
 use Rattle.cb_heap.specs.Reading.{Reading, IsReading, Agree, AgreeBits, side_by_side}
 use Rattle.cb_heap.specs.Finite.{IsSorted}
+use Rattle.cb_heap.specs.Heap.{Terms}
 use Rattle.cb_heap.specs.Links.{IsLinked, link_of}
+use Rattle.cb_join.specs.declared.Owed.{Owed}
 
 -- the same outermost form
 abbrev pub Alike : Stored → Stored → Type 0
@@ -103,3 +106,45 @@ pub record Equated (ss : List Sort) (cs : List Stored) (ps ls : List (ℕ × ℕ
 -- no values make all pairs agree
 abbrev pub NoneAgree : List Sort → List Stored → List (ℕ × ℕ) → List (ℕ × ℕ) → Type 0
 NoneAgree ss cs ps ls = (t : Sorts) (w : Bits) (g : Reading) → IsReading t w ss cs g → Agree g ps → AgreeBits w ls → ⊥
+
+-- ---- ways that are made shorter
+
+-- the link, led to another cell
+abbrev pub relinked : Stored → Ref → Stored
+relinked (cell.Same x) to = cell.Same to
+relinked _ to = cell.Bound to
+
+-- the two cells have one value, whatever the values are
+abbrev pub HaveOneValue : List Sort → List Stored → ℕ → ℕ → Type 0
+HaveOneValue ss cs r e = (t : Sorts) (w : Bits) (g : Reading) → IsReading t w ss cs g → g r ≡ g e
+
+-- Links were led further along their ways: the cells say what they did, and as much is left to do.
+pub record IsShortened (ss : List Sort) (cs cs' : List Stored) : Type 0 where
+  pub reads : (t : Sorts) (w : Bits) (g : Reading) → IsReading t w ss cs g ↔ IsReading t w ss cs' g
+  pub ends : (r : ℕ) → IsEnd cs r → IsEnd cs' r
+  pub keeps : (ls : List (ℕ × ℕ)) → KeepsLeaves ss cs ls cs' ls
+  pub number : length cs' ≡ length cs
+  pub work : work cs' ≡ work cs
+
+-- the end of the way from a cell
+pub record IsEndOf (ss : List Sort) (cs cs' : List Stored) (r e : ℕ) : Type 0 where
+  pub value : HaveOneValue ss cs r e
+  pub end : IsEnd cs' e
+
+-- ---- the same of a heap and of what is owed
+
+-- all pending pairs were joined
+abbrev pub AreJoined : Terms → Owed → Terms → Owed → Type 0
+AreJoined h o h' o' = Joined h.sorts h.cells o.pending.items o.leaves.items h'.cells [] o'.leaves.items
+
+-- no values make all that is owed agree
+abbrev pub NoneJoin : Terms → Owed → Type 0
+NoneJoin h o = NoneAgree h.sorts h.cells o.pending.items o.leaves.items
+
+-- what joining keeps of the leaves
+abbrev pub LeavesStay : Terms → Owed → Terms → Owed → Type 0
+LeavesStay h o h' o' = KeepsLeaves h.sorts h.cells o.leaves.items h'.cells o'.leaves.items
+
+-- cells l and r were made one
+abbrev pub MadeOne : Terms → Owed → ℕ → ℕ → Terms → Owed → Type 0
+MadeOne h o l r h' o' = Equated h.sorts h.cells o.pending.items o.leaves.items l r h'.cells o'.pending.items o'.leaves.items

@@ -2,11 +2,13 @@
 //! itself. Nothing here recurses over the depth of a term, and what is shared is met once.
 #![tactic(auto)]
 
-ghost use Rattle.std.specs.Prelude.{◌≡◌, ◌⊎◌, ◌↔◌, ℕ, ◌+◌, ◌<◌, ◌≤◌, ◌^◌, [], ◌∷◌, ◌++◌, length, slice_get, true, false, Some, Ok, OnOk, IsTrue};
+ghost use Rattle.std.specs.Prelude.{◌≡◌, ◌⊎◌, ◌↔◌, ℕ, ◌+◌, ◌<◌, ◌≤◌, ◌^◌, [], ◌∷◌, ◌++◌, length, slice_get, true, false, Some, Ok, IfOk, OnOk, IsTrue};
 ghost use Rattle.cb_heap.specs.Reading.{IsUnbound, side_by_side};
 ghost use Rattle.cb_heap.specs.Heap.{IsHeap};
+ghost use Rattle.cb_heap.specs.Links.{LeadsTo, chain};
 ghost use Rattle.cb_heap.specs.Moments.{KeepsMoments};
-ghost use Rattle.cb_join.specs.Joins.{Alike, Clashes, Equated, IsEnd, IsWithin, Joined, KeepsLeaves, NoneAgree, owed_leaves, owed_most, owed_pairs};
+ghost use Rattle.cb_join.specs.Cycle.{IsLinkTo};
+ghost use Rattle.cb_join.specs.Joins.{Alike, AreJoined, Clashes, IsEnd, IsEndOf, IsShortened, IsWithin, LeavesStay, MadeOne, NoneJoin, owed_leaves, owed_most, owed_pairs, relinked};
 
 mod cycle;
 
@@ -31,9 +33,9 @@ pub struct Owed {
 pub fn join(heap: &mut Heap, owed: &mut Owed) -> Result<bool, AllocError>
     requires heap { IsHeap heap.old }
     requires within { IsWithin heap.old.cells owed.old.pending.items }
-    ensures joined { result ≡ Ok true → Joined heap.old.sorts heap.old.cells owed.old.pending.items owed.old.leaves.items heap.new.cells [] owed.new.leaves.items }
-    ensures clashes { result ≡ Ok false → NoneAgree heap.old.sorts heap.old.cells owed.old.pending.items owed.old.leaves.items }
-    ensures keeps { result ≡ Ok true → KeepsLeaves heap.old.sorts heap.old.cells owed.old.leaves.items heap.new.cells owed.new.leaves.items }
+    ensures joined { result ≡ Ok true → AreJoined heap.old owed.old heap.new owed.new }
+    ensures clashes { result ≡ Ok false → NoneJoin heap.old owed.old }
+    ensures keeps { result ≡ Ok true → LeavesStay heap.old owed.old heap.new owed.new }
     ensures sorts { heap.new.sorts ≡ heap.old.sorts }
     ensures moments { KeepsMoments heap.old heap.new }
     ensures heap { IsHeap heap.new }
@@ -51,19 +53,78 @@ fn join_pair(heap: &mut Heap, l: usize, r: usize, owed: &mut Owed) -> Result<boo
     requires heap { IsHeap heap.old }
     requires within { IsWithin heap.old.cells owed.old.pending.items }
     requires there { (l < length heap.old.cells) × (r < length heap.old.cells) }
-    ensures equated { result ≡ Ok true → Equated heap.old.sorts heap.old.cells owed.old.pending.items owed.old.leaves.items l r heap.new.cells owed.new.pending.items owed.new.leaves.items }
+    ensures equated { result ≡ Ok true → MadeOne heap.old owed.old l r heap.new owed.new }
     ensures clashes { result ≡ Ok false → Clashes heap.old.sorts heap.old.cells l r }
     ensures sorts { heap.new.sorts ≡ heap.old.sorts }
     ensures moments { KeepsMoments heap.old heap.new }
     ensures heap { IsHeap heap.new }
 {
-    let l = heap.last(Ref(l));
-    let r = heap.last(Ref(r));
-    if l.0 == r.0 {
+    let l = end_of(heap, l)?;
+    let r = end_of(heap, r)?;
+    if l == r {
         return Ok(true);
     }
-    let (l, r) = ordered(l.0, r.0);
+    let (l, r) = ordered(l, r);
     equate(heap, l, r, owed)
+}
+
+// The cell past all links. The links on the way lead there from then on, so that no long way is gone twice (path
+// compression, Hopcroft and Ullman 1973).
+fn end_of(heap: &mut Heap, from: usize) -> Result<usize, AllocError>
+    requires heap { IsHeap heap.old }
+    requires from { from < length heap.old.cells }
+    ensures end { IfOk result (λ e. IsEndOf heap.old.sorts heap.old.cells heap.new.cells from e) }
+    ensures shortened { OnOk result (IsShortened heap.old.sorts heap.old.cells heap.new.cells) }
+    ensures sorts { heap.new.sorts ≡ heap.old.sorts }
+    ensures moments { KeepsMoments heap.old heap.new }
+    ensures heap { IsHeap heap.new }
+{
+    let end = heap.last(Ref(from));
+    let mut at = from;
+    'links: while let Some(to) = far_link(heap, at, end) {
+        relink(heap, at, to, end)?;
+        at = to.0;
+    }
+    Ok(end.0)
+}
+
+// Where a cell leads, if it is a link to another cell than this one.
+fn far_link(heap: &Heap, at: usize, end: Ref) -> Option<Ref>
+    requires { at < length heap.now.cells }
+    ensures { (to : Ref) → result ≡ Some to → IsLinkTo heap.now.cells at to }
+{
+    match heap.link(Ref(at)) {
+        Some(to) => { if to.0 == end.0 { None } else { Some(to) } }
+        None => None,
+    }
+}
+
+// Leads a link to the end of its way.
+fn relink(heap: &mut Heap, at: usize, to: Ref, end: Ref) -> Result<(), AllocError>
+    requires heap { IsHeap heap.old }
+    requires link { IsLinkTo heap.old.cells at to }
+    requires leads { LeadsTo heap.old.cells to.0 end.0 }
+    requires there { (at < length heap.old.cells) × (end.0 < length heap.old.cells) }
+    ensures shortened { OnOk result (IsShortened heap.old.sorts heap.old.cells heap.new.cells) }
+    ensures leads { OnOk result (LeadsTo heap.new.cells to.0 end.0) }
+    ensures less { OnOk result (chain heap.new.cells to.0 < chain heap.old.cells at) }
+    ensures sorts { heap.new.sorts ≡ heap.old.sorts }
+    ensures moments { KeepsMoments heap.old heap.new }
+    ensures heap { IsHeap heap.new }
+{
+    let link = heap.stored(Ref(at));
+    heap.rewrite(Ref(at), relinked(link, end))?;
+    Ok(())
+}
+
+// The link, led to another cell.
+fn relinked(link: Stored, to: Ref) -> Stored
+    ensures { result ≡ relinked link to }
+{
+    match link {
+        Stored::Same(_) => Stored::Same(to),
+        _ => Stored::Bound(to),
+    }
 }
 
 // The two in order.
@@ -82,7 +143,7 @@ fn equate(heap: &mut Heap, l: usize, r: usize, owed: &mut Owed) -> Result<bool, 
     requires there { (l < length heap.old.cells) × (r < length heap.old.cells) }
     requires ends { IsEnd heap.old.cells l × IsEnd heap.old.cells r }
     requires older { l < r }
-    ensures equated { result ≡ Ok true → Equated heap.old.sorts heap.old.cells owed.old.pending.items owed.old.leaves.items l r heap.new.cells owed.new.pending.items owed.new.leaves.items }
+    ensures equated { result ≡ Ok true → MadeOne heap.old owed.old l r heap.new owed.new }
     ensures clashes { result ≡ Ok false → Clashes heap.old.sorts heap.old.cells l r }
     ensures sorts { heap.new.sorts ≡ heap.old.sorts }
     ensures moments { KeepsMoments heap.old heap.new }

@@ -343,6 +343,10 @@ module _ (now s : Seen) (is : s ≡ now) (st : IsState now) (h' : Terms) (b' : B
 pub heap-back : (now s : Seen) → s ≡ now → IsState now → IsHeap s.heap
 heap-back now s is st = (subst IsState (sym is) st).heap
 
+-- without the variables that were made
+pub state-alone : (s now : Seen) → s ≡ now → IsState now → IsState (seen_of s.heap s.store [])
+state-alone s now is st = let q = subst IsState (sym is) st in record { store = q.store; heap = q.heap; finite = q.finite; rise = q.rise; made = tt }
+
 is-yes : {E : Type 0} → Result Bool E → Bool
 is-yes (Ok b) = b
 is-yes (Err e) = false

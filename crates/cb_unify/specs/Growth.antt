@@ -1,5 +1,5 @@
 -- What new variables and new cells do to the values of a state.
-use Rattle.std.specs.Prelude.{◌≡◌, ℕ, ◌+◌, ◌<◌, ◌≤◌, List, [], ◌∷◌, ◌++◌, length, map, Some, slice_get}
+use Rattle.std.specs.Prelude.{◌≡◌, ℕ, ◌+◌, ◌<◌, ◌≤◌, List, [], ◌∷◌, ◌++◌, length, map, Some, Err, Result, slice_get}
 use Rattle.cb_model.specs.declared.Sort.{Sort}
 use Rattle.cb_model.specs.declared.Sort.TheVariants as sort
 use Rattle.cb_model.specs.declared.Tree.{Tree}
@@ -8,7 +8,10 @@ use Rattle.cb_model.specs.Values.{Ground, Bit, Word, Sorts, Fits, Valuation, tre
 use Rattle.cb_model.specs.Program.{bools}
 use Rattle.cb_boole.specs.View.{InRange}
 use Rattle.cb_dd.specs.declared.Node.{Node}
+use Rattle.cb_dd.specs.declared.Stop.{Stop}
+use Rattle.cb_dd.specs.declared.Stop.TheVariants as stop
 use Rattle.cb_ops.specs.Ops.{Grows}
+use Rattle.cb_elim.specs.Unified.{HasCause}
 use Rattle.cb_elim.specs.Store.{Seen as Booleans, IsArgument, slot_bits, view_of}
 use Rattle.cb_heap.specs.declared.Cell.{Cell}
 use Rattle.cb_heap.specs.declared.Cell.TheVariants as shown
@@ -139,3 +142,13 @@ pub record IsBusOf (old new : Seen) (ns : List Node) (r : ℕ) : Type 0 where
   pub placed : IsPlaced old new sort.Bus r
   pub nodes : new.store.nodes ≡ old.store.nodes
   pub value : HasValue new r (λ a w. Word (map (λ n. node_bit old a w n.0) ns))
+
+-- ---- nodes
+
+-- there are at most so many nodes more
+abbrev pub AddsNodes : Booleans → Booleans → ℕ → Type 0
+AddsNodes s u n = length u.nodes.triples ≤ length s.nodes.triples + n
+
+-- where the answer is a stop for nodes, the budget is too small for so many more
+abbrev pub StopsBy : {A : Type 0} → Result A Stop → Booleans → Booleans → ℕ → Type 0
+StopsBy r s u n = r ≡ Err stop.Nodes → HasCause s u n

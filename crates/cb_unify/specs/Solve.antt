@@ -1,16 +1,24 @@
 -- Equations between cells, and what solving them makes of a state.
-use Rattle.std.specs.Prelude.{◌≡◌, ◌↔◌, ℕ, ◌+◌, ◌*◌, ◌^◌, ◌<◌, ◌≤◌, List, length, map}
+use Rattle.std.specs.Prelude.{◌≡◌, ◌↔◌, ℕ, ◌+◌, ◌*◌, ◌^◌, ◌<◌, ◌≤◌, Bool, List, [], Result, length, map}
 use Rattle.cb_model.specs.Bits.{Bits, Each}
 use Rattle.cb_boole.specs.View.{View, InRange}
 use Rattle.cb_elim.specs.Store.{Seen as Booleans, slot_bits}
-use Rattle.cb_elim.specs.Unified.{HasSameValues}
+use Rattle.cb_dd.specs.declared.Stop.{Stop}
+use Rattle.cb_elim.specs.Moments.{KeepsMoments as KeepsBools}
+use Rattle.cb_elim.specs.Pairs.{pairs_bound}
+use Rattle.cb_elim.specs.Unified.{HasSameValues, OnlyValues}
 use Rattle.cb_heap.specs.declared.Ref.{Ref}
 use Rattle.cb_heap.specs.declared.Stored.{Stored}
+use Rattle.cb_heap.specs.Finite.{AllFinite}
 use Rattle.cb_heap.specs.Heap.{Terms}
+use Rattle.cb_heap.specs.Moments.{KeepsMoments as KeepsTerms}
 use Rattle.cb_heap.specs.Reading.{AgreeBits}
 use Rattle.cb_model.specs.Values.{Sorts}
 use Rattle.cb_join.specs.Cycle.{IsClosed}
-use Rattle.cb_unify.specs.State.{Seen, FitsTable}
+use Rattle.cb_join.specs.Joins.{KeepsLeaves}
+use Rattle.cb_solution.specs.Solution.{has_refused}
+use Rattle.cb_unify.specs.Growth.{AddsNodes, StopsBy}
+use Rattle.cb_unify.specs.State.{Seen, FitsTable, HasNone, IsSolved}
 
 -- the numbers of the cells of each pair
 abbrev pub cells_of : List (Ref × Ref) → List (ℕ × ℕ)
@@ -60,3 +68,30 @@ pub record NoBits (S : View) (ls : List (ℕ × ℕ)) : Type 0 where
 pub record IsSettled (n : ℕ) (cs : List Stored) : Type 0 where
   pub within : n ≤ length cs
   pub closed : IsClosed n cs
+
+-- the equations were solved, in terms and store, whatever variables were made
+pub record IsAttempted (h : Terms) (s : Booleans) (h' : Terms) (s' : Booleans) (ps : List (ℕ × ℕ)) : Type 0 where
+  pub solved : (xs : List ℕ) → IsSolved (seen_of h s xs) (seen_of h' s' xs) ps
+  pub finite : AllFinite h'.cells
+  pub leaves : (ls : List (ℕ × ℕ)) × KeepsLeaves h.sorts h.cells [] h'.cells ls
+  pub values : OnlyValues s s'
+
+-- they can't be
+abbrev pub CantBeSolved : Terms → Booleans → List (ℕ × ℕ) → Type 0
+CantBeSolved h s ps = (xs : List ℕ) → HasNone (seen_of h s xs) ps
+
+-- terms and store can still go back, and the terms have the sorts that they had
+pub record IsKept (h : Terms) (s : Booleans) (h' : Terms) (s' : Booleans) : Type 0 where
+  pub sorts : h'.sorts ≡ h.sorts
+  pub terms : KeepsTerms h h'
+  pub bools : KeepsBools s s'
+
+-- the nodes that these pairs of slots take at most
+abbrev pub pairs_most : Booleans → List (ℕ × ℕ) → ℕ
+pairs_most s ps = pairs_bound (length ps) (length s.slots) (width s)
+
+-- what was spent of the budget, and the count of refusals
+pub record Spends (r : Result Bool Stop) (s s' : Booleans) (most : ℕ) : Type 0 where
+  pub room : AddsNodes s s' most
+  pub cause : StopsBy r s s' most
+  pub fulls : s'.nodes.fulls ≡ has_refused s.nodes.fulls r

@@ -1,5 +1,5 @@
 -- What writing a tree as cells makes of a state.
-use Rattle.std.specs.Prelude.{◌≡◌, ℕ, ◌+◌, ◌*◌, ◌^◌, ◌<◌, ◌≤◌, true, List, [], ◌∷◌, length, map, Option, Some, None, get_or, slice_get, sum, sum_by}
+use Rattle.std.specs.Prelude.{◌≡◌, ℕ, ◌+◌, ◌*◌, ◌^◌, ◌<◌, ◌≤◌, true, Result, List, [], ◌∷◌, length, map, Option, Some, None, get_or, slice_get, sum, sum_by}
 use Rattle.cb_model.specs.declared.Sort.{Sort}
 use Rattle.cb_model.specs.declared.Sort.TheVariants as sort
 use Rattle.cb_model.specs.declared.Expr.{Expr}
@@ -12,6 +12,7 @@ use Rattle.cb_model.specs.Room.{tree_size}
 use Rattle.cb_model.specs.Sorted.{arguments_fit, tree_fits, tree_sort, variables_fit}
 use Rattle.cb_model.specs.Values.{Bit, Name, Sorts, expr_value, grounds}
 use Rattle.cb_boole.specs.View.{point}
+use Rattle.cb_dd.specs.declared.Stop.{Stop}
 use Rattle.cb_elim.specs.declared.Slot.{Slot}
 use Rattle.cb_elim.specs.Expression.{variable_bits}
 use Rattle.cb_elim.specs.Store.{Seen as Booleans, IsArgument, view_of}
@@ -19,7 +20,7 @@ use Rattle.cb_heap.specs.declared.Ref.{Ref}
 use Rattle.cb_heap.specs.declared.Stored.TheVariants as cell
 use Rattle.cb_heap.specs.Reading.{Reading, CellsHold}
 use Rattle.cb_unify.specs.State.{Seen, FitsTable, Reads, node_bit}
-use Rattle.cb_unify.specs.Growth.{IsAdded, IsBuilt, IsSortedFrame}
+use Rattle.cb_unify.specs.Growth.{AddsNodes, IsAdded, IsBuilt, IsSortedFrame, StopsBy}
 use Rattle.cb_unify.specs.Solve.{width}
 
 -- ---- what is promised
@@ -57,6 +58,14 @@ bit_places = fold-Tree ℕ bit_places_step
 -- two nodes for each of so many operators and leaves and each row of the levels
 abbrev pub nodes_most : Booleans → ℕ → ℕ
 nodes_most s n = 2 * n * 2 ^ width s
+
+-- there are at most so many nodes more as so many operators and leaves take
+abbrev pub WritesAtMost : Booleans → Booleans → ℕ → Type 0
+WritesAtMost s u n = AddsNodes s u (nodes_most s n)
+
+-- where the answer is a stop for nodes, the budget is too small for twice so many operators and leaves
+abbrev pub StopsAt : {A : Type 0} → Result A Stop → Booleans → Booleans → ℕ → Type 0
+StopsAt r s u n = StopsBy r s u (nodes_most s (2 * n))
 
 -- the nodes that writing a tree adds at most
 abbrev pub build_most : Booleans → Tree → ℕ

@@ -11,8 +11,8 @@ ghost use Rattle.cb_solution.specs.Solution.{has_refused};
 ghost use Rattle.cb_elim.specs.Unified.{HasCause};
 ghost use Rattle.cb_unify.specs.State.{IsAsBefore, IsState};
 ghost use Rattle.cb_unify.specs.Moments.{KeepsMoments};
-ghost use Rattle.cb_unify.specs.Growth.{AddsSlots, IsExtended};
-ghost use Rattle.cb_unify.specs.Trees.{HasCompound, HaveSlots, IsCompoundOf, IsNodeOf, IsTreeOf, IsWritten, bit_places, build_most, nodes_most};
+ghost use Rattle.cb_unify.specs.Growth.{AddsNodes, AddsSlots, IsExtended, StopsBy};
+ghost use Rattle.cb_unify.specs.Trees.{HasCompound, HaveSlots, IsCompoundOf, IsNodeOf, IsTreeOf, IsWritten, StopsAt, WritesAtMost, bit_places, build_most};
 
 use crate::{Frame, State};
 use cb_dd::{Node, Stop};
@@ -35,8 +35,8 @@ impl State {
         ensures extended { OnOk result (IsExtended self.old self.new) }
         ensures count { OnOk result (AddsSlots self.old self.new (bit_places tree.now)) }
         ensures as_before { OnErr result (IsAsBefore self.old self.new) }
-        ensures room { length self.new.store.nodes.triples ≤ length self.old.store.nodes.triples + build_most self.old.store tree.now }
-        ensures cause { result ≡ Err Stop.Nodes → HasCause self.old.store self.new.store (build_most self.old.store tree.now) }
+        ensures room { AddsNodes self.old.store self.new.store (build_most self.old.store tree.now) }
+        ensures cause { StopsBy result self.old.store self.new.store (build_most self.old.store tree.now) }
         ensures fulls { self.new.store.nodes.fulls ≡ has_refused self.old.store.nodes.fulls result }
         ensures moments { KeepsMoments self.old self.new }
         ensures state { IsState self.new }
@@ -84,8 +84,8 @@ impl State {
         requires state { IsState self.old }
         requires scope { in_scope self.old.store.constants (length slots.now) e.now ≡ true }
         ensures node { IfOk result (λ n. IsNodeOf self.old self.new slots.now e.now n.0) }
-        ensures room { length self.new.store.nodes.triples ≤ length self.old.store.nodes.triples + nodes_most self.old.store (expr_size e.now) }
-        ensures cause { result ≡ Err Stop.Nodes → HasCause self.old.store self.new.store (nodes_most self.old.store (2 * expr_size e.now)) }
+        ensures room { WritesAtMost self.old.store self.new.store (expr_size e.now) }
+        ensures cause { StopsAt result self.old.store self.new.store (expr_size e.now) }
         ensures fulls { self.new.store.nodes.fulls ≡ has_refused self.old.store.nodes.fulls result }
         ensures risen { self.old.store.nodes.fulls ≤ self.new.store.nodes.fulls }
         ensures moments { KeepsMoments self.old self.new }
@@ -135,8 +135,8 @@ fn tree_cell(
     requires scope { tree_in_scope state.old.store.constants (length frame.now) tree.now ≡ true }
     ensures tree { IfOk result (λ r. IsTreeOf state.old state.new frame.now tree.now r.0) }
     ensures slots { OnOk result (HaveSlots state.new frame.now slots.new.items) }
-    ensures room { length state.new.store.nodes.triples ≤ length state.old.store.nodes.triples + nodes_most state.old.store (tree_size tree.now) }
-    ensures cause { result ≡ Err Stop.Nodes → HasCause state.old.store state.new.store (nodes_most state.old.store (2 * tree_size tree.now)) }
+    ensures room { WritesAtMost state.old.store state.new.store (tree_size tree.now) }
+    ensures cause { StopsAt result state.old.store state.new.store (tree_size tree.now) }
     ensures fulls { state.new.store.nodes.fulls ≡ has_refused state.old.store.nodes.fulls result }
     ensures risen { state.old.store.nodes.fulls ≤ state.new.store.nodes.fulls }
     ensures moments { KeepsMoments state.old state.new }
@@ -169,8 +169,8 @@ fn compound(
     requires scope { all_of (map (tree_in_scope state.old.store.constants (length frame.now)) args.now) ≡ true }
     ensures tree { IfOk result (λ r. IsTreeOf state.old state.new frame.now (tree.Node name args.now) r.0) }
     ensures slots { OnOk result (HaveSlots state.new frame.now slots.new.items) }
-    ensures room { length state.new.store.nodes.triples ≤ length state.old.store.nodes.triples + nodes_most state.old.store (tree_size (tree.Node name args.now)) }
-    ensures cause { result ≡ Err Stop.Nodes → HasCause state.old.store state.new.store (nodes_most state.old.store (2 * (tree_size (tree.Node name args.now)))) }
+    ensures room { WritesAtMost state.old.store state.new.store (tree_size (tree.Node name args.now)) }
+    ensures cause { StopsAt result state.old.store state.new.store (tree_size (tree.Node name args.now)) }
     ensures fulls { state.new.store.nodes.fulls ≡ has_refused state.old.store.nodes.fulls result }
     ensures risen { state.old.store.nodes.fulls ≤ state.new.store.nodes.fulls }
     ensures moments { KeepsMoments state.old state.new }
@@ -203,8 +203,8 @@ fn bus_cell(
     requires scope { tree_in_scope state.old.store.constants (length frame.now) (tree.Bus es.now tail) ≡ true }
     ensures tree { IfOk result (λ r. IsTreeOf state.old state.new frame.now (tree.Bus es.now tail) r.0) }
     ensures slots { OnOk result (HaveSlots state.new frame.now slots.new.items) }
-    ensures room { length state.new.store.nodes.triples ≤ length state.old.store.nodes.triples + nodes_most state.old.store (tree_size (tree.Bus es.now tail)) }
-    ensures cause { result ≡ Err Stop.Nodes → HasCause state.old.store state.new.store (nodes_most state.old.store (2 * (tree_size (tree.Bus es.now tail)))) }
+    ensures room { WritesAtMost state.old.store state.new.store (tree_size (tree.Bus es.now tail)) }
+    ensures cause { StopsAt result state.old.store state.new.store (tree_size (tree.Bus es.now tail)) }
     ensures fulls { state.new.store.nodes.fulls ≡ has_refused state.old.store.nodes.fulls result }
     ensures risen { state.old.store.nodes.fulls ≤ state.new.store.nodes.fulls }
     ensures moments { KeepsMoments state.old state.new }
@@ -256,8 +256,8 @@ fn truth(
     requires scope { in_scope state.old.store.constants (length frame.now) e.now ≡ true }
     ensures tree { IfOk result (λ r. IsTreeOf state.old state.new frame.now (tree.Leaf e.now) r.0) }
     ensures slots { OnOk result (HaveSlots state.new frame.now slots.new.items) }
-    ensures room { length state.new.store.nodes.triples ≤ length state.old.store.nodes.triples + nodes_most state.old.store (expr_size e.now) }
-    ensures cause { result ≡ Err Stop.Nodes → HasCause state.old.store state.new.store (nodes_most state.old.store (2 * (expr_size e.now))) }
+    ensures room { WritesAtMost state.old.store state.new.store (expr_size e.now) }
+    ensures cause { StopsAt result state.old.store state.new.store (expr_size e.now) }
     ensures fulls { state.new.store.nodes.fulls ≡ has_refused state.old.store.nodes.fulls result }
     ensures risen { state.old.store.nodes.fulls ≤ state.new.store.nodes.fulls }
     ensures moments { KeepsMoments state.old state.new }

@@ -2,19 +2,17 @@
 
 ghost use Rattle.std.specs.Prelude.{◌≡◌, ℕ, ◌+◌, ◌<◌, ◌≤◌, [], List, length, map, true, false, Ok, Err, IfOk};
 ghost use Rattle.cb_dd.specs.declared.Stop.TheVariants as Stop;
-ghost use Rattle.cb_heap.specs.Finite.{AllFinite};
 ghost use Rattle.cb_heap.specs.Heap.{IsHeap};
-ghost use Rattle.cb_heap.specs.Moments.{KeepsMoments as KeepsTerms};
 ghost use Rattle.cb_elim.specs.Moments.{KeepsMoments as KeepsBools};
-ghost use Rattle.cb_elim.specs.Pairs.{AreSlots, pairs_bound};
+ghost use Rattle.cb_elim.specs.Pairs.{AreSlots};
 ghost use Rattle.cb_elim.specs.Store.{IsAsBefore as IsStoreBefore, IsStore, view_of};
 ghost use Rattle.cb_elim.specs.Unified.{HasCause, OnlyValues};
 ghost use Rattle.cb_elim.proofs.Together.{nodes_of};
 ghost use Rattle.cb_join.specs.Cycle.{IsClosed};
-ghost use Rattle.cb_join.specs.Joins.{KeepsLeaves, Rising};
 ghost use Rattle.cb_solution.specs.Solution.{has_refused};
+ghost use Rattle.cb_unify.specs.Growth.{AddsNodes, StopsBy};
 ghost use Rattle.cb_unify.specs.Moments.{KeepsMoments};
-ghost use Rattle.cb_unify.specs.Solve.{AreCells, NoBits, OnlyRewritten, SolvesPairs, cells_of, seen_of, solve_most, width};
+ghost use Rattle.cb_unify.specs.Solve.{AreCells, CantBeSolved, IsAttempted, IsKept, NoBits, OnlyRewritten, SolvesPairs, Spends, cells_of, pairs_most, seen_of, solve_most};
 ghost use Rattle.cb_unify.specs.State.{HasNone, IsAsBefore, IsSolved, IsState};
 
 use crate::State;
@@ -40,7 +38,7 @@ impl State {
         ensures none { result ≡ Ok false → HasNone self.old (cells_of pairs.now) }
         ensures rewritten { result ≡ Ok true → OnlyRewritten self.old self.new }
         ensures as_before { (result ≡ Ok true → ⊥) → IsAsBefore self.old self.new }
-        ensures room { length self.new.store.nodes.triples ≤ length self.old.store.nodes.triples + solve_most self.old.store }
+        ensures room { AddsNodes self.old.store self.new.store (solve_most self.old.store) }
         ensures nodes { result ≡ Err Stop.Nodes → HasCause self.old.store self.new.store (solve_most self.old.store) }
         ensures fulls { self.new.store.nodes.fulls ≡ has_refused self.old.store.nodes.fulls result }
         ensures moments { KeepsMoments self.old self.new }
@@ -82,23 +80,14 @@ fn attempt(
     settled: usize,
     pairs: &[(Ref, Ref)],
 ) -> Result<bool, Stop>
-    requires heap { IsHeap heap.old }
-    requires finite { AllFinite heap.old.cells }
+    requires state { IsState (seen_of heap.old store.old []) }
     requires settled { IsClosed settled heap.old.cells }
     requires there { AreCells heap.old pairs.now }
-    requires store { IsStore store.old }
-    requires rise { Rising (length store.old.slots) 0 heap.old.cells }
-    ensures solved { result ≡ Ok true → (xs : List ℕ) → IsSolved (seen_of heap.old store.old xs) (seen_of heap.new store.new xs) (cells_of pairs.now) }
-    ensures none { result ≡ Ok false → (xs : List ℕ) → HasNone (seen_of heap.old store.old xs) (cells_of pairs.now) }
-    ensures finite { result ≡ Ok true → AllFinite heap.new.cells }
-    ensures leaves { result ≡ Ok true → (ls : List (ℕ × ℕ)) × KeepsLeaves heap.old.sorts heap.old.cells [] heap.new.cells ls }
-    ensures values { result ≡ Ok true → OnlyValues store.old store.new }
+    ensures solved { result ≡ Ok true → IsAttempted heap.old store.old heap.new store.new (cells_of pairs.now) }
+    ensures none { result ≡ Ok false → CantBeSolved heap.old store.old (cells_of pairs.now) }
     ensures as_before { (result ≡ Ok true → ⊥) → IsStoreBefore store.old store.new }
-    ensures room { length store.new.nodes.triples ≤ length store.old.nodes.triples + solve_most store.old }
-    ensures nodes { result ≡ Err Stop.Nodes → HasCause store.old store.new (solve_most store.old) }
-    ensures fulls { store.new.nodes.fulls ≡ has_refused store.old.nodes.fulls result }
-    ensures sorts { heap.new.sorts ≡ heap.old.sorts }
-    ensures kept { KeepsTerms heap.old heap.new × KeepsBools store.old store.new }
+    ensures spends { Spends result store.old store.new (solve_most store.old) }
+    ensures kept { IsKept heap.old store.old heap.new store.new }
     ensures heap { IsHeap heap.new }
     ensures store { IsStore store.new }
 {
@@ -142,8 +131,8 @@ fn unify_slots(alloc: Global, store: &mut Store, pairs: &[(usize, usize)]) -> Re
     ensures none { result ≡ Ok false → NoBits (view_of store.old) pairs.now }
     ensures values { result ≡ Ok true → OnlyValues store.old store.new }
     ensures as_before { (result ≡ Ok true → ⊥) → IsStoreBefore store.old store.new }
-    ensures room { length store.new.nodes.triples ≤ length store.old.nodes.triples + pairs_bound (length pairs.now) (length store.old.slots) (width store.old) }
-    ensures nodes { result ≡ Err Stop.Nodes → HasCause store.old store.new (pairs_bound (length pairs.now) (length store.old.slots) (width store.old)) }
+    ensures room { AddsNodes store.old store.new (pairs_most store.old pairs.now) }
+    ensures nodes { StopsBy result store.old store.new (pairs_most store.old pairs.now) }
     ensures fulls { store.new.nodes.fulls ≡ has_refused store.old.nodes.fulls result }
     ensures moments { KeepsBools store.old store.new }
     ensures store { IsStore store.new }

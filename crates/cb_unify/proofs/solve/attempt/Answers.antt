@@ -2,7 +2,7 @@ use Rattle.std.proofs.Common.{ℕ, List, length, ap, sym, subst, Ok}
 use Rattle.cb_elim.specs.Pairs.{AreSlots}
 use Rattle.cb_elim.specs.Store.{view_of}
 use Rattle.cb_unify.specs.Solve.{NoBits, SolvesPairs}
-use Rattle.cb_unify.proofs.Solving.{all-solved, bits-none, cause-from, clash-none, cycle-none, owed-bound, owed-slots, pending-within, room-from, then-closed}
+use Rattle.cb_unify.proofs.Solving.{all-solved, bits-none, cause-from, clash-none, cycle-none, none-owed, owed-bound, owed-slots, pending-within, room-from, then-closed}
 use Rattle.cb_unify.proofs.solve.attempt.Goals as goal
 
 pub join-requires-clause-within : goal.join-requires-clause-within
@@ -15,7 +15,7 @@ returns-in-Ok-false-clause-none c _ =
 
 pub is_finite-requires-clause-settled : goal.is_finite-requires-clause-settled
 is_finite-requires-clause-settled c =
-    then-closed c.args.heap.now c.join.new.heap c.requires.heap c.in-Ok-true.ensures.moments c.mark-since.result c.mark-since.ensures.moment c.mark-since.ensures.now c.args.settled c.requires.settled
+    then-closed c.args.heap.now c.join.new.heap c.requires.state.heap c.in-Ok-true.ensures.moments c.mark-since.result c.mark-since.ensures.moment c.mark-since.ensures.now c.args.settled c.requires.settled
 
 pub returns-in-Ok-false-is_finite-clause-none : goal.returns-in-Ok-false-is_finite-clause-none
 returns-in-Ok-false-is_finite-clause-none c _ =
@@ -25,26 +25,31 @@ returns-in-Ok-false-is_finite-clause-none c _ =
 pub unify_slots-requires-clause-slots : goal.unify_slots-requires-clause-slots
 unify_slots-requires-clause-slots c =
     subst (λ (x : List (ℕ × ℕ)). AreSlots c.args.store.now x) (sym c.deref.ensures.value)
-    (owed-slots c.args.store.now c.args.heap.now.sorts c.args.heap.now.cells c.join.new.heap.cells c.in-Ok.owed.leaves.items c.join.new.owed.leaves.items c.in-Ok.ensures.leaves c.requires.rise (c.in-Ok-true.ensures.keeps (ap Ok c.in-Ok-true.field-0-test)))
+    (owed-slots c.args.store.now c.args.heap.now.sorts c.args.heap.now.cells c.join.new.heap.cells c.in-Ok.owed.leaves.items c.join.new.owed.leaves.items c.in-Ok.ensures.leaves c.requires.state.rise (c.in-Ok-true.ensures.keeps (ap Ok c.in-Ok-true.field-0-test)))
 
 pub returns-clause-solved : goal.returns-clause-solved
 returns-clause-solved c e =
-    all-solved c.args.heap.now c.args.store.now c.args.pairs.now c.in-Ok.owed.pending.items c.in-Ok.ensures.pending c.in-Ok.owed.leaves.items c.in-Ok.ensures.leaves
-    c.join.new.heap c.in-Ok-true.ensures.sorts c.join.new.owed.leaves.items (c.in-Ok-true.ensures.joined (ap Ok c.in-Ok-true.field-0-test))
-    c.unify_slots.new.store (subst (λ (x : List (ℕ × ℕ)). SolvesPairs (view_of c.args.store.now) (view_of c.unify_slots.new.store) x) c.deref.ensures.value (c.unify_slots.ensures.solved e))
-    (c.in-Ok-true-is_finite.ensures.finite (ap Ok c.in-Ok-true-is_finite.field-0-test)) (c.in-Ok-true.ensures.keeps (ap Ok c.in-Ok-true.field-0-test)).sorted
+    let keeps = c.in-Ok-true.ensures.keeps (ap Ok c.in-Ok-true.field-0-test) in
+    record {
+      solved = all-solved c.args.heap.now c.args.store.now c.args.pairs.now c.in-Ok.owed.pending.items c.in-Ok.ensures.pending c.in-Ok.owed.leaves.items c.in-Ok.ensures.leaves
+          c.join.new.heap c.in-Ok-true.ensures.sorts c.join.new.owed.leaves.items (c.in-Ok-true.ensures.joined (ap Ok c.in-Ok-true.field-0-test))
+          c.unify_slots.new.store (subst (λ (x : List (ℕ × ℕ)). SolvesPairs (view_of c.args.store.now) (view_of c.unify_slots.new.store) x) c.deref.ensures.value (c.unify_slots.ensures.solved e))
+          (c.in-Ok-true-is_finite.ensures.finite (ap Ok c.in-Ok-true-is_finite.field-0-test)) keeps.sorted;
+      finite = c.in-Ok-true-is_finite.ensures.finite (ap Ok c.in-Ok-true-is_finite.field-0-test);
+      leaves = (c.join.new.owed.leaves.items, none-owed c.args.store.now c.args.heap.now.sorts c.args.heap.now.cells c.join.new.heap.cells c.in-Ok.owed.leaves.items c.join.new.owed.leaves.items c.in-Ok.ensures.leaves c.requires.state.rise keeps);
+      values = c.unify_slots.ensures.values e;
+    }
 
 pub returns-clause-none : goal.returns-clause-none
 returns-clause-none c e =
     bits-none c.args.heap.now c.args.store.now c.args.pairs.now c.in-Ok.owed.pending.items c.in-Ok.ensures.pending c.in-Ok.owed.leaves.items c.in-Ok.ensures.leaves
     c.join.new.heap c.in-Ok-true.ensures.sorts c.join.new.owed.leaves.items (c.in-Ok-true.ensures.joined (ap Ok c.in-Ok-true.field-0-test)) (subst (λ (x : List (ℕ × ℕ)). NoBits (view_of c.args.store.now) x) c.deref.ensures.value (c.unify_slots.ensures.none e))
 
-pub returns-clause-room : goal.returns-clause-room
-returns-clause-room c =
-    room-from c.args.store.now (length c.unify_slots.new.store.nodes.triples) (length c.args.store.now.nodes.triples) c.deref.result.now c.join.new.owed.leaves.items c.deref.ensures.value
-    (owed-bound c.args.store.now c.args.heap.now.sorts c.args.heap.now.cells c.join.new.heap.cells c.in-Ok.owed.leaves.items c.join.new.owed.leaves.items c.in-Ok.ensures.leaves c.requires.rise (c.in-Ok-true.ensures.keeps (ap Ok c.in-Ok-true.field-0-test))) c.unify_slots.ensures.room
-
-pub returns-clause-nodes : goal.returns-clause-nodes
-returns-clause-nodes c e =
-    cause-from c.args.store.now c.unify_slots.new.store c.deref.result.now c.join.new.owed.leaves.items c.deref.ensures.value
-    (owed-bound c.args.store.now c.args.heap.now.sorts c.args.heap.now.cells c.join.new.heap.cells c.in-Ok.owed.leaves.items c.join.new.owed.leaves.items c.in-Ok.ensures.leaves c.requires.rise (c.in-Ok-true.ensures.keeps (ap Ok c.in-Ok-true.field-0-test))) (c.unify_slots.ensures.nodes e)
+pub returns-clause-spends : goal.returns-clause-spends
+returns-clause-spends c =
+    let bound = owed-bound c.args.store.now c.args.heap.now.sorts c.args.heap.now.cells c.join.new.heap.cells c.in-Ok.owed.leaves.items c.join.new.owed.leaves.items c.in-Ok.ensures.leaves c.requires.state.rise (c.in-Ok-true.ensures.keeps (ap Ok c.in-Ok-true.field-0-test)) in
+    record {
+      room = room-from c.args.store.now (length c.unify_slots.new.store.nodes.triples) (length c.args.store.now.nodes.triples) c.deref.result.now c.join.new.owed.leaves.items c.deref.ensures.value bound c.unify_slots.ensures.room;
+      cause = λ e. cause-from c.args.store.now c.unify_slots.new.store c.deref.result.now c.join.new.owed.leaves.items c.deref.ensures.value bound (c.unify_slots.ensures.nodes e);
+      fulls = c.unify_slots.ensures.fulls;
+    }
