@@ -12,3 +12,4 @@ pub mod Exprs
 pub mod Compounds
 pub mod Written
 pub mod Bounds
+pub mod Instances

@@ -5,3 +5,4 @@ pub mod Lending
 pub mod Laws
 pub mod Solve
 pub mod Trees
+pub mod Instance

@@ -15,6 +15,7 @@ ghost use Rattle.cb_unify.specs.Moments.{Moment, IsMoment, KeepsMoments, moment_
 ghost use Rattle.cb_unify.specs.Growth.{HasSlot};
 ghost use Rattle.cb_unify.specs.Lending.{LendsOps, LendsStore};
 ghost use Rattle.cb_unify.specs.Laws.{OpsAreLent, StoreIsLent};
+ghost use Rattle.cb_unify.specs.Instance.{SolutionsAreInstances, ValuesAreInstances};
 
 mod build;
 mod bus;
@@ -181,4 +182,11 @@ impl State {
 pub fn loans_are_safe()
     ensures store { StoreIsLent }
     ensures ops { OpsAreLent }
+{}
+
+/// Every solution in the algebra, also over a longer list of constants, is an instance of the slots and cells: each free
+/// level is given the table of its variable, each unbound cell its value in the solution.
+pub fn solutions_are_instances()
+    ensures values { ValuesAreInstances }
+    ensures solutions { SolutionsAreInstances }
 {}
