@@ -176,11 +176,6 @@ valuation_choice t bits c h = fun_ext at
     at (ABus n) = bus_forth (c (ABus n)) (h (ABus n))
     at (ATerm n) = (is_coded t sort.Term (c (ATerm n)) (h (ATerm n))).1
 
-pub choice_back : (b : Valuation) → valuation b.bits (choice b) ≡ b
-choice_back b =
-    ap (λ (ws : ℕ → List Bool). record { bits = b.bits; words = ws; terms = λ n. decoded (coded (b.terms n)) }) (fun_ext (λ n. bus_back (b.words n)))
-    ∙ ap (λ (ts : ℕ → Ground). record { bits = b.bits; words = b.words; terms = ts }) (fun_ext (λ n. back (b.terms n)))
-
 -- ---- trees
 
 abbrev pub end_form : Option ℕ → Form

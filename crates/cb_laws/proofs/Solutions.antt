@@ -211,10 +211,6 @@ module _ (w : World) (v : ℕ) (es : List Item) (scope : InScope v v es) (a : Bi
 -- ---- all solutions, where the items' equations have most general parts
 
 module _ (w : World) (v : ℕ) (es : List Item) (scope : InScope v v es) (s : Solved w.arguments (item_pairs v es)) where
-  -- how many bits a row has
-  abbrev pub row_length : ℕ
-  row_length = v + outputs_in es
-
   abbrev pub row_truths : List Bool → List Bool → Truths
   row_truths ra r = expr_value (bits_of ra) (bits_of r)
 

@@ -38,9 +38,6 @@ without_less x (y ∷ ys) h = step (same y x) h (without_most x ys) (without_les
     step true k l go = omega (arith, l)
     step false k l go = let m = go k in omega (arith, m)
 
-pub same_sym : (x y : Unknown) → same x y ≡ true → same y x ≡ true
-same_sym x y h = subst (λ z. same z x ≡ true) (same_is x y h) (same_self x)
-
 has_without : (x z : Unknown) (ys : List Unknown) → same x z ≡ false → has ys z ≡ true → has (without x ys) z ≡ true
 has_without x z [] e h = absurd (cc)
 has_without x z (y ∷ ys) e h = step (same y x) refl (same y z) refl h (has_without x z ys e)

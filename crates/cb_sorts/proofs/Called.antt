@@ -1,20 +1,22 @@
 -- Each goal that a query calls has a name of the file.
-use Rattle.std.specs.Prelude.{All, unwrap_or, MatchBool, ◌⊎◌, codes}
+use Rattle.std.specs.Prelude.{All, slice_get, unwrap_or, MatchBool, ◌⊎◌, codes}
 use Rattle.std.specs.Bool.{if◌then◌else◌}
 use Rattle.std.specs.List.{list_any, list_all}
 use Rattle.std.proofs.Common.{◌≡◌, ℕ, zero, suc, ◌<◌, ◌≤◌, Bool, true, false, not, ◌&&◌, ◌||◌, List, [], ◌∷◌, ◌++◌, map, length, Option, Some, None, bytes_eq, nat_eq, refl, sym, ◌∙◌, ap, subst, arith}
+use Rattle.std.proofs.lemmas.List.{append-nil}
 use Rattle.std.proofs.lemmas.Slice.Eq.{bytes_eq-Decides}
 use Rattle.std.proofs.lemmas.Bool.Decides.{nat_tests}
 use Rattle.cb_model.specs.Text.{Text}
 use Rattle.cb_model.specs.declared.Goal.{Goal}
 use Rattle.cb_model.specs.declared.Goal.TheVariants as goal
+use Rattle.cb_model.specs.declared.Clause.{Clause}
 use Rattle.cb_model.specs.Grammar.{Form, Forms, Variable, Integer, Name, Closed, Open, Not, And, Xor, Or, Last, More, FormGoal, ACall, AnEqual, FormClause, Directive, Rule}
 use Rattle.cb_model.specs.Written.{is_name, clause_written}
-use Rattle.cb_model.specs.Directives.{Sign, same_sign, has_sign, count_of, Declared, sorts_of, heads, Refusal, Unknown, SortClash}
+use Rattle.cb_model.specs.Directives.{Sign, same_sign, has_sign, count_of, Declared, sorts_of, heads, Refusal, Twice, Unknown, SortClash}
 use Rattle.cb_model.specs.Sorts.{Body, Clash, Numbering, sign_number, as_trees, circuit_sign}
-use Rattle.cb_model.specs.Loading.{module_sign, spec_sign, sign_is, is_fact, names_module, first_atom, module_names, is_unknown, goal_unknown, query_body, BodyRefusal, circuit_goal, call_goal, IsGoal, a_call, an_equal, AreGoals, no_goals, more_goals, numbering, signs_of, goals_signs, clauses_signs}
-use Rattle.cb_sorts.specs.Source.{declared_signs}
-use Rattle.cb_sorts.specs.Called.{CallsBelow, QueriesCallNames}
+use Rattle.cb_model.specs.Loading.{module_sign, spec_sign, sign_is, is_fact, names_module, first_atom, module_names, is_unknown, goal_unknown, query_body, BodyRefusal, RulesRefusal, skip, directive, passes, refused, is_taken, body_of, IsClause, HaveClauses, no_clauses, skips, skips_directive, a_clause, circuit_goal, call_goal, IsGoal, a_call, an_equal, AreGoals, no_goals, more_goals, numbering, signs_of, goals_signs, clauses_signs}
+use Rattle.cb_sorts.specs.Source.{Source, Loads, declared_signs}
+use Rattle.cb_sorts.specs.Called.{CallsBelow, ClausesCallNames, QueriesCallNames}
 use Rattle.cb_sorts.proofs.Known.{number_below, place_within, and_left, and_right, all_left, all_right, rule_signs, fact_signs}
 
 -- ---- the same name
@@ -169,3 +171,41 @@ pub queries_call_names : QueriesCallNames
 queries_call_names cs s gs a written loads asks =
     goals_below s.names a.names s.declared cs (module_names cs) (loads.program []).every loads.every_declared (numbering s.declared (s.names ++ a.names) (query_body gs)) refl (query_body gs) 0 (query_body gs).goals a.goals
     (all_known s.declared (heads cs) (module_names cs) gs asks.accepted) asks.goals
+
+-- ---- the goals of rules
+
+rule_known : (d : Declared) (hs : List Sign) (ms : List (Option Text)) (b : Body) → BodyRefusal d hs ms b None → list_any (goal_unknown d hs ms) b.goals ≡ false
+rule_known d hs ms b h = step (is_taken b.head) (list_any (goal_unknown d hs ms) b.goals) None h refl
+  where
+    step : (t c : Bool) (r : Option Refusal) → MatchBool t (r ≡ Some Twice) (MatchBool c (r ≡ Some Unknown) ((Clash d b × (r ≡ Some SortClash)) ⊎ ((Clash d b → ⊥) × (r ≡ None)))) → r ≡ None → c ≡ false
+    step true c r h e = absurd (cc)
+    step false true r h e = absurd (cc)
+    step false false r h e = refl
+
+pub same_some : {A : Type 0} (x y : A) → Some x ≡ Some y → x ≡ y
+same_some {A} x y e = ap un e
+  where
+    un : Option A → A
+    un (Some z) = z
+    un None = x
+
+module _ (s : Source) (cs : List FormClause) (loads : Loads cs s) where
+  rules_below : (as' : List FormClause) (xs : List Clause) (r : Option (Refusal × ℕ)) → r ≡ None → RulesRefusal s.declared (heads cs) (module_names cs) as' r → HaveClauses s.declared s.names (module_names cs) as' xs →
+      (k : ℕ) (c : Clause) → slice_get xs k ≡ Some c → All (CallsBelow (length s.names)) c.body
+  rules_below [] [] r e ok no_clauses k c at = absurd (cc)
+  rules_below [] (x ∷ xs) r e ok more k c at = elim more [ ]
+  rules_below (Directive j y fs ∷ as') xs r e (skip q ok) more k c at = absurd (cc)
+  rules_below (Directive j y fs ∷ as') xs r e (directive ok) (skips q more) k c at = absurd (cc)
+  rules_below (Directive j y fs ∷ as') xs r e (directive ok) (skips_directive more) k c at = rules_below as' xs r e ok more k c at
+  rules_below (Rule j f bodied gs ∷ as') xs r e (skip q ok) (skips q' more) k c at = rules_below as' xs r e ok more k c at
+  rules_below (Rule j f bodied gs ∷ as') (x ∷ xs) r e (skip q ok) (a_clause q' is more) k c at = absurd (cc)
+  rules_below (Rule j f bodied gs ∷ as') xs r e (passes q body ok) (skips q' more) k c at = absurd (cc)
+  rules_below (Rule j f bodied gs ∷ as') (x ∷ xs) r e (passes q body ok) (a_clause q' is more) zero c at =
+      subst (λ (y : Clause). All (CallsBelow (length s.names)) y.body) (same_some x c at)
+      (goals_below s.names [] s.declared cs (module_names cs) (loads.program []).every loads.every_declared (numbering s.declared s.names (body_of f gs)) (sym (append-nil s.names)) (body_of f gs) 0 (body_of f gs).goals x.body
+      (rule_known s.declared (heads cs) (module_names cs) (body_of f gs) body) is.body)
+  rules_below (Rule j f bodied gs ∷ as') (x ∷ xs) r e (passes q body ok) (a_clause q' is more) (suc k) c at = rules_below as' xs r e ok more k c at
+  rules_below (Rule j f bodied gs ∷ as') xs r e (refused q body) more k c at = absurd (cc)
+
+pub clauses_call_names : ClausesCallNames
+clauses_call_names cs s k c loads at = rules_below s cs loads cs s.clauses None refl loads.rules (loads.program []).clauses k c at

@@ -5,3 +5,4 @@ pub mod Extended
 pub mod OverFile
 pub mod Declared
 pub mod Called
+pub mod Accepted

@@ -2,3 +2,4 @@ pub mod Source
 pub mod Asked
 pub mod OverFile
 pub mod Called
+pub mod Accepted

@@ -2,7 +2,8 @@
 #![tactic(auto)]
 
 ghost use Rattle.cb_sorts.specs.OverFile.{QueriesOverFile};
-ghost use Rattle.cb_sorts.specs.Called.{QueriesCallNames};
+ghost use Rattle.cb_sorts.specs.Called.{ClausesCallNames, QueriesCallNames};
+ghost use Rattle.cb_sorts.specs.Accepted.{AcceptedAreSound};
 
 mod asking;
 mod chained;
@@ -26,4 +27,16 @@ pub fn queries_over_file()
 /// also a declared name that has no clauses.
 pub fn queries_call_names()
     ensures { QueriesCallNames }
+{}
+
+/// Each goal that a clause of an accepted file calls has a name of the file.
+pub fn clauses_call_names()
+    ensures { ClausesCallNames }
+{}
+
+/// The program of an accepted file and an accepted query over it are sound: their trees have constants and variables that
+/// exist and fit the sorts of their places, each goal that is called has a name of the file, and their goals are fewer than
+/// 2^32.
+pub fn accepted_are_sound()
+    ensures { AcceptedAreSound }
 {}

@@ -15,3 +15,4 @@ pub mod Bounds
 pub mod Delays
 pub mod Settled
 pub mod Places
+pub mod Instances

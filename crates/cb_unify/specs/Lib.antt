@@ -6,3 +6,4 @@ pub mod Laws
 pub mod Solve
 pub mod Trees
 pub mod Delays
+pub mod Instance
