@@ -52,6 +52,33 @@ impl State {
         }
     }
 
+    /// The cell of a compound of written trees, as `build` would make it of the compound.
+    pub fn compound(&mut self, name: u32, args: &[Tree], frame: &Frame) -> Result<Ref, Stop>
+        requires state { IsState self.old }
+        requires frame { Each (λ r. r < length self.old.heap.cells) frame.now }
+        requires scope { tree_in_scope self.old.store.constants (length frame.now) (tree.Node name args.now) ≡ true }
+        ensures written { IfOk result (λ r. IsWritten self.old self.new frame.now (tree.Node name args.now) r.0) }
+        ensures compound { IfOk result (λ r. HasCompound self.new (tree.Node name args.now) r.0) }
+        ensures extended { OnOk result (IsExtended self.old self.new) }
+        ensures count { OnOk result (AddsSlots self.old self.new (bit_places (tree.Node name args.now))) }
+        ensures as_before { OnErr result (IsAsBefore self.old self.new) }
+        ensures room { length self.new.store.nodes.triples ≤ length self.old.store.nodes.triples + build_most self.old.store (tree.Node name args.now) }
+        ensures cause { result ≡ Err Stop.Nodes → HasCause self.old.store self.new.store (build_most self.old.store (tree.Node name args.now)) }
+        ensures fulls { self.new.store.nodes.fulls ≡ has_refused self.old.store.nodes.fulls result }
+        ensures moments { KeepsMoments self.old self.new }
+        ensures state { IsState self.new }
+    {
+        let before = self.mark();
+        let mut slots = Vec::new(*self.made.allocator());
+        match compound(self, name, args, frame, &mut slots) {
+            Ok(r) => Ok(r),
+            Err(stop) => {
+                self.undo(before);
+                Err(stop)
+            }
+        }
+    }
+
     // The node of an expression over these slots. After a refusal only the count of refusals may have risen.
     fn node_of(&mut self, e: &Expr, slots: &[Option<Slot>]) -> Result<Node, Stop>
         requires state { IsState self.old }
