@@ -1,0 +1,10 @@
+mod Cells
+mod Branches
+mod Takes
+mod Begins
+mod Methods
+mod Looks
+mod Calls
+mod Resolving
+mod Showing
+pub mod Laws

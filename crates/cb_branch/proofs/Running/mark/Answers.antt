@@ -1,0 +1,10 @@
+use Rattle.std.proofs.Common.{◌≡◌, length, arith}
+use Rattle.cb_branch.proofs.Looks.{mark-is}
+use Rattle.cb_branch.proofs.Calls.{state-here}
+use Rattle.cb_branch.proofs.Running.mark.Goals as goal
+
+pub mark-requires : goal.mark-requires
+mark-requires c = state-here c.args.self.now c.self.inside.program.now c.self.inside.query.now c.self.inside.state c.self.inside.frames.items c.self.inside.goals c.self.inside.top c.self.inside.steps c.self.view_is c.requires.0 c.requires.1
+
+pub returns : goal.returns
+returns c = mark-is c.args.self.now c.self.inside.program.now c.self.inside.query.now c.self.inside.state c.self.inside.frames.items c.self.inside.goals c.self.inside.top c.self.inside.steps c.self.view_is c.mark.result c.len.result c.mark-2.result c.mark.ensures.moment (let o = c.self.inside.frames.ok.0 in let e = c.len.ensures in omega arith) c.mark-2.ensures

@@ -1,0 +1,5 @@
+pub mod Scope
+pub mod Running
+pub mod Terms
+pub mod Lending
+pub mod Laws

@@ -1,0 +1,228 @@
+-- What contracts see of a running branch. The layer above never looks inside these words.
+use Rattle.std.specs.Prelude.{◌≡◌, ◌≢◌, ℕ, zero, suc, ◌+◌, ◌-◌, ◌^◌, ◌<◌, ◌≤◌, List, [], ◌∷◌, ◌++◌, length, Some, slice_get}
+use Rattle.cb_model.specs.declared.Sort.{Sort}
+use Rattle.cb_model.specs.declared.Tree.{Tree}
+use Rattle.cb_model.specs.declared.Tree.TheVariants as tree
+use Rattle.cb_model.specs.declared.Goal.{Goal}
+use Rattle.cb_model.specs.declared.Goal.TheVariants as goal
+use Rattle.cb_model.specs.declared.Clause.{Clause}
+use Rattle.cb_model.specs.Outside.{Rose}
+use Rattle.cb_model.specs.Output.{printed_from}
+use Rattle.cb_model.specs.Text.{Text}
+use Rattle.cb_model.specs.Program.{Program, bools}
+use Rattle.cb_model.specs.Equations.{Solvable}
+use Rattle.cb_model.specs.Derivation.{Branch, Query, Woken}
+use Rattle.cb_sorts.specs.Source.{Source}
+use Rattle.cb_sorts.specs.Asked.{Asked}
+use Rattle.cb_sorts.specs.OverFile.{asked_program, asked_query}
+use Rattle.cb_goals.specs.declared.Link.{Link}
+use Rattle.cb_goals.specs.declared.Pending.{Pending}
+use Rattle.cb_goals.specs.declared.Pending.TheVariants as pending
+use Rattle.cb_goals.specs.Chain.{goals_at}
+use Rattle.cb_unify.specs.State as state
+use Rattle.cb_unify.specs.State.{IsState, FitsTable, no_state}
+use Rattle.cb_unify.specs.Moments as moments
+use Rattle.cb_branch.specs.declared.First.{First}
+use Rattle.cb_branch.specs.declared.First.TheVariants as first
+use Rattle.cb_items.specs.Standing.{Stands, IsFrame, IsVals, HasVariables}
+use Rattle.cb_items.specs.Shifted.{IsShiftedGoal}
+use Rattle.cb_branch.specs.Scope.{IsGoalFor, IsRunnable}
+
+-- the program and the query, the terms with their variables, the frames of the clauses that were renamed, the lists of
+-- goals, the list that the branch goes on with, and the number of equation steps
+pub record Seen : Type 0 where
+  pub program : Source
+  pub query : Asked
+  pub state : state.Seen
+  pub frames : List (List ℕ)
+  pub links : List Link
+  pub top : ℕ
+  pub steps : ℕ
+
+-- a moment, to which the branch can go back
+pub record Moment : Type 0 where
+  pub state : moments.Moment
+  pub frames : ℕ
+  pub links : ℕ
+  pub top : ℕ
+  pub steps : ℕ
+
+-- the moment now
+unfoldable pub moment_of : Seen → Moment
+moment_of s = record { state = moments.moment_of s.state; frames = length s.frames; links = length s.links; top = s.top; steps = s.steps }
+
+-- the count of refusals for nodes
+unfoldable pub fulls_of : Seen → ℕ
+fulls_of s = s.state.store.nodes.fulls
+
+-- how many nodes it may have
+unfoldable pub nodes_of : Seen → ℕ
+nodes_of s = s.state.store.nodes.budget
+
+-- the same, but for the count of refusals for nodes
+unfoldable pub with_fulls : ℕ → Seen → Seen
+with_fulls n s = record s { state = state.with_fulls n s.state }
+
+-- its program
+unfoldable pub program_of : Seen → Program
+program_of s = asked_program s.program s.query []
+
+-- the query that it began with
+unfoldable pub query_of : Seen → Query
+query_of s = asked_query s.query
+
+-- ---- its goals
+
+-- a goal as it stands in the text: over variables of these sorts, which have the cells of this frame
+pub record Place : Type 0 where
+  pub sorts : List Sort
+  pub goal : Goal
+  pub frame : ℕ
+
+-- where a goal stands in the text; one whose arguments are in cells stands nowhere
+abbrev pub IsAt : Seen → Pending → Place → Type 0
+IsAt s (pending.Asked place) w = (slice_get s.query.goals place ≡ Some w.goal) × (w.sorts ≡ s.query.sorts) × (w.frame ≡ 0)
+IsAt s (pending.Body clause place frame) w =
+    (c : Clause) × (slice_get s.program.clauses clause ≡ Some c) × (slice_get c.body place ≡ Some w.goal) × (w.sorts ≡ c.sorts) × (w.frame ≡ frame)
+IsAt s (pending.Called pred call) w = ⊥
+
+-- what stands in the text is the branch's goal, where its variables are those of the frame
+pub record StandsFor (s : Seen) (x : Pending) (g : Goal) : Type 0 where
+  pub place : Place
+  pub is : IsAt s x place
+  pub good : IsGoalFor (asked_program s.program s.query []) (length s.program.names) place.sorts place.goal
+  pub cells : List ℕ
+  pub frame : slice_get s.frames place.frame ≡ Some cells
+  pub base : ℕ
+  pub placed : IsFrame s.state base place.sorts cells
+  pub shifted : IsShiftedGoal base place.goal g
+
+-- the same of each, in order
+abbrev pub AreGoals : Seen → List Pending → List Goal → Type 0
+AreGoals s [] [] = Unit {0}
+AreGoals s (x ∷ xs) (g ∷ gs) = StandsFor s x g × AreGoals s xs gs
+AreGoals s _ _ = ⊥
+
+-- the goals of a query from a place on, so many
+abbrev pub asked_goals : ℕ → ℕ → List Pending
+asked_goals place zero = []
+asked_goals place (suc n) = pending.Asked place ∷ asked_goals (suc place) n
+
+-- the first frame has the query's variables, which are the first of the branch
+pub record HasAsked (s : Seen) : Type 0 where
+  pub cells : List ℕ
+  pub at : slice_get s.frames 0 ≡ Some cells
+  pub placed : IsFrame s.state 0 s.query.sorts cells
+
+-- ---- the branch
+
+-- it is this branch of the derivation
+pub record IsTheBranch (s : Seen) (b : Branch) : Type 0 where
+  pub state : IsState s.state
+  pub fits : FitsTable (asked_program s.program s.query []).world.arguments s.state
+  pub constants : s.state.store.constants ≡ length s.program.declared.constants
+  pub drawn : s.state.store.drawn ≡ length s.program.declared.constants + bools b.sorts
+  pub variables : HasVariables s.state b.sorts
+  pub vals : IsVals (asked_program s.program s.query []).world s.state b.items
+  pub solvable : Solvable (asked_program s.program s.query []).world b.items
+  pub goals : AreGoals s (goals_at s.links s.top) b.goals
+  pub top : s.top ≤ length s.links
+  pub asked : HasAsked s
+  pub waiting : b.waiting ≡ []
+  pub next : b.next ≡ 0
+  pub steps : b.steps ≡ s.steps
+  pub runnable : IsRunnable s.program s.query
+
+-- the same, unseen from above
+unfoldable pub IsBranch : Seen → Branch → Type 0
+IsBranch s b = IsTheBranch s b
+
+-- the cell of a call stands for the predicate with these arguments
+unfoldable pub IsCall : Seen → ℕ → ℕ → List Tree → Type 0
+IsCall s call pred args = (call < length s.state.heap.sorts) × Stands (asked_program s.program s.query []).world.arguments s.state call (tree.Node pred args)
+
+-- Each moment of the first is one of the second, and going back to it gives the same.
+pub record IsLater (s t : Seen) : Type 0 where
+  pub program : t.program ≡ s.program
+  pub query : t.query ≡ s.query
+  pub state : moments.KeepsMoments s.state t.state
+  pub holds : IsState s.state → IsState t.state
+  pub fulls : s.state.store.nodes.fulls ≤ t.state.store.nodes.fulls
+  pub nodes : t.state.store.nodes.budget ≡ s.state.store.nodes.budget
+  pub frames : (more : List (List ℕ)) × (t.frames ≡ s.frames ++ more)
+  pub links : (more : List Link) × (t.links ≡ s.links ++ more)
+
+-- the same, unseen from above
+unfoldable pub Keeps : Seen → Seen → Type 0
+Keeps s t = IsLater s t
+
+-- what is left to do without a resolution
+unfoldable pub work_of : Seen → ℕ
+work_of s = length (goals_at s.links s.top)
+
+-- the nodes are too few for the branch
+unfoldable pub TooFew : ℕ → Branch → Type 0
+TooFew nodes b = nodes ≢ 2 ^ 64 - 1
+
+-- a stop for nodes has its cause: a node was refused, and they are too few for the branch
+pub record WantsNodes (old new : Seen) (b : Branch) : Type 0 where
+  pub rose : Rose (fulls_of old) (fulls_of new)
+  pub few : TooFew (nodes_of old) b
+
+-- ---- what the calls say
+
+-- nothing has begun: no variable, no goal
+abbrev pub unbegun : Source → Asked → ℕ → Seen
+unbegun p q nodes = record { program = p; query = q; state = no_state (length p.declared.constants) nodes; frames = []; links = []; top = 0; steps = 0 }
+
+-- a running branch whose first goal is this
+pub record Starts (s : Seen) (g : Goal) : Type 0 where
+  pub b : Branch
+  pub is : IsBranch s b
+  pub rest : List Goal
+  pub goals : b.goals ≡ g ∷ rest
+
+-- there is room for an addition with so many Boolean variables
+pub record HasRoom (s : Seen) (more : ℕ) : Type 0 where
+  pub b : Branch
+  pub is : IsBranch s b
+  pub variables : (program_of s).constants + bools b.sorts + more ≤ 4096
+  pub steps : b.steps < 1000000
+
+-- the first of the goals
+abbrev pub IsFirst : First → List Goal → Type 0
+IsFirst first.Nothing gs = gs ≡ []
+IsFirst first.True gs = (rest : List Goal) × (gs ≡ goal.True ∷ rest)
+IsFirst first.Fail gs = (rest : List Goal) × (gs ≡ goal.Fail ∷ rest)
+IsFirst first.Equal gs = (l : Tree) × (r : Tree) × (rest : List Goal) × (gs ≡ goal.Equal l r ∷ rest)
+IsFirst (first.Call pred) gs = (args : List Tree) × (rest : List Goal) × (gs ≡ goal.Call pred args ∷ rest)
+
+-- the branch without its first goal
+abbrev pub behind : Branch → List Goal → Branch
+behind b rest = record b { goals = rest }
+
+-- the addition was tried: the branch goes on where its items are solvable
+pub record GoesOn (p : Program) (new : Seen) (b : Branch) : Type 0 where
+  pub solvable : Solvable p.world b.items
+  pub woken : Branch
+  pub wakes : Woken p b woken
+  pub is : IsBranch new woken
+
+-- a call in cells, and a clause of its predicate
+pub record IsResolvable (s : Seen) (clause call : ℕ) : Type 0 where
+  pub b : Branch
+  pub is : IsBranch s b
+  pub pred : ℕ
+  pub args : List Tree
+  pub cells : IsCall s call pred args
+  pub c : Clause
+  pub there : slice_get (program_of s).clauses clause ≡ Some c
+  pub of : c.pred ≡ pred
+  pub room : HasRoom s (bools c.sorts)
+
+-- the cell is that of the variable which is printed in this place
+pub record IsPrinted (s : Seen) (place r : ℕ) : Type 0 where
+  pub number : ℕ
+  pub name : Text
+  pub printed : slice_get (printed_from 0 s.query.variables) place ≡ Some (number, name)
+  pub made : slice_get s.state.made number ≡ Some r
