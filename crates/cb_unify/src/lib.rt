@@ -14,12 +14,8 @@ ghost use Rattle.cb_unify.specs.State.{Seen, FitsTable, HasValue, IsState, no_st
 ghost use Rattle.cb_unify.specs.Moments.{Moment, IsMoment, KeepsMoments, moment_of, reverted};
 ghost use Rattle.cb_unify.specs.Growth.{HasSlot};
 ghost use Rattle.cb_unify.specs.Lending.{LendsOps, LendsStore};
-<<<<<<< HEAD
 ghost use Rattle.cb_unify.specs.Laws.{OpsAreLent, PlacesAreFew, StoreIsLent};
-=======
-ghost use Rattle.cb_unify.specs.Laws.{OpsAreLent, StoreIsLent};
 ghost use Rattle.cb_unify.specs.Instance.{SolutionsAreInstances, ValuesAreInstances};
->>>>>>> m/laws
 
 mod build;
 mod bus;
@@ -189,16 +185,15 @@ pub fn loans_are_safe()
     ensures ops { OpsAreLent }
 {}
 
-<<<<<<< HEAD
 /// A tree that `build` writes takes no more slots than it has operators and leaves: what a bound on the slots of a branch
 /// rests on.
 pub fn trees_have_few_places()
     ensures { PlacesAreFew }
-=======
+{}
+
 /// Every solution in the algebra, also over a longer list of constants, is an instance of the slots and cells: each free
 /// level is given the table of its variable, each unbound cell its value in the solution.
 pub fn solutions_are_instances()
     ensures values { ValuesAreInstances }
     ensures solutions { SolutionsAreInstances }
->>>>>>> m/laws
 {}
