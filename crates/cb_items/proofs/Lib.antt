@@ -2,3 +2,4 @@ pub mod Lists
 pub mod Shifts
 pub mod Bridges
 pub mod Additions
+pub mod Instances

@@ -2,3 +2,4 @@ pub mod Standing
 pub mod Shifted
 pub mod Items
 pub mod Laws
+pub mod Instances

@@ -8,6 +8,7 @@ ghost use Rattle.cb_unify.specs.State.{IsAsBefore, IsState};
 ghost use Rattle.cb_unify.specs.Moments.{KeepsMoments};
 ghost use Rattle.cb_items.specs.Items.{AddsFrame, AddsPair, RefutesPair, Refuses, wants_nodes};
 ghost use Rattle.cb_items.specs.Laws.{BuiltStands, FrameLater, FullsSayNothing, RenamedIsShifted, StandsLater, ValuesStay};
+ghost use Rattle.cb_items.specs.Instances.{SolutionsAreInstances};
 
 use cb_dd::Stop;
 use cb_heap::Ref;
@@ -63,4 +64,9 @@ pub fn cells_stand()
 pub fn values_stay()
     ensures cells { ValuesStay }
     ensures fulls { FullsSayNothing }
+{}
+
+/// Every solution in the algebra of a branch's items, over however many constants, is an instance of its slots and cells.
+pub fn solutions_are_instances()
+    ensures { SolutionsAreInstances }
 {}
