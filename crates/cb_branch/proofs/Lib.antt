@@ -1,3 +1,4 @@
+mod Accepted
 mod Cells
 mod Branches
 mod Takes

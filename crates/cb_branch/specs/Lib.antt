@@ -3,3 +3,4 @@ pub mod Running
 pub mod Terms
 pub mod Lending
 pub mod Laws
+pub mod Accepted

@@ -13,6 +13,7 @@ ghost use Rattle.cb_model.specs.Derivation.{Branch, extended, first_branch, is_d
 ghost use Rattle.cb_branch.specs.Running.{GoesOn, HasRoom, IsBranch, IsCall, IsAt, IsFirst, IsPrinted, IsResolvable, Keeps, Place, Seen, Starts, WantsNodes, behind, moment_of, program_of, query_of, unbegun, with_fulls, fulls_of, work_of};
 ghost use Rattle.cb_model.specs.Output.{printed_from};
 ghost use Rattle.cb_branch.specs.Scope.{IsRunnable};
+ghost use Rattle.cb_branch.specs.Accepted.{AcceptedCanRun};
 ghost use Rattle.std.specs.Borrow.{sem};
 ghost use Rattle.cb_branch.specs.Lending.{LendsState};
 ghost use Rattle.cb_branch.specs.Laws.{BranchHasItsValues, LoanKeepsTheBranch};
@@ -208,4 +209,9 @@ pub fn loan_keeps_the_branch()
 /// The values that the terms of a branch can have together are the solutions of its equations.
 pub fn branch_has_its_values()
     ensures { BranchHasItsValues }
+{}
+
+/// The program of an accepted file and an accepted query over it can be run, where no goal waits.
+pub fn accepted_can_run()
+    ensures { AcceptedCanRun }
 {}
