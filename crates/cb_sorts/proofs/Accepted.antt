@@ -35,7 +35,7 @@ use Rattle.cb_sorts.specs.Source.{Source, Loads}
 use Rattle.cb_sorts.specs.Asked.{Asked, Asks}
 use Rattle.cb_sorts.specs.Called.{CallsBelow}
 use Rattle.cb_sorts.specs.OverFile.{asked_names, asked_program, asked_query}
-use Rattle.cb_sorts.specs.Accepted.{AcceptedAreSound, AreSound, ClauseIsSound, GoalIsSound, IsPlaced}
+use Rattle.cb_sorts.specs.Accepted.{AcceptedAreSound, AreSound, ClauseIsSound, GoalIsSound}
 use Rattle.cb_sorts.proofs.Called.{clauses_call_names, queries_call_names, same_some}
 use Rattle.cb_sorts.proofs.OverFile.{queries_over_file}
 

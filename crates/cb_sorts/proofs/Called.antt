@@ -2,7 +2,7 @@
 use Rattle.std.specs.Prelude.{All, slice_get, unwrap_or, MatchBool, ◌⊎◌, codes}
 use Rattle.std.specs.Bool.{if◌then◌else◌}
 use Rattle.std.specs.List.{list_any, list_all}
-use Rattle.std.proofs.Common.{◌≡◌, ℕ, zero, suc, ◌<◌, ◌≤◌, Bool, true, false, not, ◌&&◌, ◌||◌, List, [], ◌∷◌, ◌++◌, map, length, Option, Some, None, bytes_eq, nat_eq, refl, sym, ◌∙◌, ap, subst, arith}
+use Rattle.std.proofs.Common.{◌≡◌, ℕ, zero, suc, ◌<◌, Bool, true, false, not, ◌&&◌, ◌||◌, List, [], ◌∷◌, ◌++◌, map, length, Option, Some, None, bytes_eq, nat_eq, refl, sym, ◌∙◌, ap, subst, arith}
 use Rattle.std.proofs.lemmas.List.{append-nil}
 use Rattle.std.proofs.lemmas.Slice.Eq.{bytes_eq-Decides}
 use Rattle.std.proofs.lemmas.Bool.Decides.{nat_tests}
@@ -11,10 +11,9 @@ use Rattle.cb_model.specs.declared.Goal.{Goal}
 use Rattle.cb_model.specs.declared.Goal.TheVariants as goal
 use Rattle.cb_model.specs.declared.Clause.{Clause}
 use Rattle.cb_model.specs.Grammar.{Form, Forms, Variable, Integer, Name, Closed, Open, Not, And, Xor, Or, Last, More, FormGoal, ACall, AnEqual, FormClause, Directive, Rule}
-use Rattle.cb_model.specs.Written.{is_name, clause_written}
 use Rattle.cb_model.specs.Directives.{Sign, same_sign, has_sign, count_of, Declared, sorts_of, heads, Refusal, Twice, Unknown, SortClash}
 use Rattle.cb_model.specs.Sorts.{Body, Clash, Numbering, sign_number, as_trees, circuit_sign}
-use Rattle.cb_model.specs.Loading.{module_sign, spec_sign, sign_is, is_fact, names_module, first_atom, module_names, is_unknown, goal_unknown, query_body, BodyRefusal, RulesRefusal, skip, directive, passes, refused, is_taken, body_of, IsClause, HaveClauses, no_clauses, skips, skips_directive, a_clause, circuit_goal, call_goal, IsGoal, a_call, an_equal, AreGoals, no_goals, more_goals, numbering, signs_of, goals_signs, clauses_signs}
+use Rattle.cb_model.specs.Loading.{module_sign, spec_sign, is_fact, names_module, first_atom, module_names, is_unknown, goal_unknown, query_body, BodyRefusal, RulesRefusal, skip, directive, passes, refused, is_taken, body_of, HaveClauses, no_clauses, skips, skips_directive, a_clause, circuit_goal, call_goal, IsGoal, a_call, an_equal, AreGoals, no_goals, more_goals, numbering, signs_of, goals_signs, clauses_signs}
 use Rattle.cb_sorts.specs.Source.{Source, Loads, declared_signs}
 use Rattle.cb_sorts.specs.Called.{CallsBelow, ClausesCallNames, QueriesCallNames}
 use Rattle.cb_sorts.proofs.Known.{number_below, place_within, and_left, and_right, all_left, all_right, rule_signs, fact_signs}
@@ -160,7 +159,7 @@ module _ (names : List Sign) where
           first_below g others (goal_below b k f g (or_left (goal_unknown d (heads cs) ms f) (list_any (goal_unknown d (heads cs) ms) rest) h) i)
           (goals_below b (suc k) rest others (or_right (goal_unknown d (heads cs) ms f) (list_any (goal_unknown d (heads cs) ms) rest) h) p)
 
-all_known : (d : Declared) (hs : List Sign) (ms : List (Option Text)) (gs : List FormGoal) → BodyRefusal d hs ms (query_body gs) None → list_any (goal_unknown d hs ms) (query_body gs).goals ≡ false
+pub all_known : (d : Declared) (hs : List Sign) (ms : List (Option Text)) (gs : List FormGoal) → BodyRefusal d hs ms (query_body gs) None → list_any (goal_unknown d hs ms) (query_body gs).goals ≡ false
 all_known d hs ms gs h = step (list_any (goal_unknown d hs ms) (query_body gs).goals) None h refl
   where
     step : (c : Bool) (r : Option Refusal) → MatchBool c (r ≡ Some Unknown) ((Clash d (query_body gs) × (r ≡ Some SortClash)) ⊎ ((Clash d (query_body gs) → ⊥) × (r ≡ None))) → r ≡ None → c ≡ false
@@ -174,7 +173,7 @@ queries_call_names cs s gs a written loads asks =
 
 -- ---- the goals of rules
 
-rule_known : (d : Declared) (hs : List Sign) (ms : List (Option Text)) (b : Body) → BodyRefusal d hs ms b None → list_any (goal_unknown d hs ms) b.goals ≡ false
+pub rule_known : (d : Declared) (hs : List Sign) (ms : List (Option Text)) (b : Body) → BodyRefusal d hs ms b None → list_any (goal_unknown d hs ms) b.goals ≡ false
 rule_known d hs ms b h = step (is_taken b.head) (list_any (goal_unknown d hs ms) b.goals) None h refl
   where
     step : (t c : Bool) (r : Option Refusal) → MatchBool t (r ≡ Some Twice) (MatchBool c (r ≡ Some Unknown) ((Clash d b × (r ≡ Some SortClash)) ⊎ ((Clash d b → ⊥) × (r ≡ None)))) → r ≡ None → c ≡ false
