@@ -8,9 +8,10 @@ use Rattle.cb_model.specs.Bits.{Each}
 use Rattle.cb_model.specs.Program.{Program}
 use Rattle.cb_sorts.specs.OverFile.{asked_program}
 use Rattle.cb_sorts.specs.Accepted.{GoalIsSound, IsPlaced}
+use Rattle.cb_sorts.specs.Waits.{NeverWaits}
 use Rattle.cb_sorts.proofs.Accepted.{accepted_are_sound}
 use Rattle.cb_branch.specs.Scope.{IsGoalFor, IsTreeFor}
-use Rattle.cb_branch.specs.Accepted.{AcceptedCanRun, NeverWaits}
+use Rattle.cb_branch.specs.Accepted.{AcceptedCanRun}
 
 module _ (p : Program) (n : ℕ) (zs : List Sort) where
   tree-for : (z : Sort) (x : Tree) → IsPlaced p zs z x → IsTreeFor p zs z x
