@@ -1,20 +1,18 @@
 -- Renumbered terms.
-use Rattle.std.proofs.Common.{◌≡◌, ℕ, zero, suc, ◌+◌, ◌<◌, Bool, true, false, List, [], ◌∷◌, ◌++◌, map, length, get_or, Option, Some, None, ℤ, refl, sym, ap, subst, ◌∙◌, arith, append_assoc, length-append}
+use Rattle.std.proofs.Common.{◌≡◌, ℕ, zero, suc, ◌+◌, Bool, true, List, [], ◌∷◌, ◌++◌, map, length, get_or, Option, Some, None, refl, sym, ap, subst, ◌∙◌, arith, append_assoc, length-append}
 use Rattle.std.specs.Prelude.{option_map, flat_map}
 use Rattle.std.specs.List.{list_all}
-use Rattle.std.proofs.lemmas.List.{append-nil, length-map, map-append}
-use Rattle.cb_model.specs.declared.Sort.{Sort}
+use Rattle.std.proofs.lemmas.List.{map-append}
 use Rattle.cb_model.specs.declared.Sort.TheVariants as sort
-use Rattle.cb_model.specs.declared.Expr.{Expr}
 use Rattle.cb_model.specs.declared.Expr.TheVariants as expr
 use Rattle.cb_model.specs.declared.Tree.{Tree}
 use Rattle.cb_model.specs.declared.Tree.TheOpen.{Tree-F}
 use Rattle.cb_model.specs.declared.Tree.TheVariants as tree
 use Rattle.cb_model.specs.declared.Tree.TheFolds.{fold-roll-Tree}
 use Rattle.cb_model.specs.Bits.{Bits, numbers, numbers_from, Each}
-use Rattle.cb_model.specs.Values.{Ground, Bit, Word, Int, Name, Grounds, Last, More, grounds, World, Valuation, IsValuation, tail_of, tree_value}
+use Rattle.cb_model.specs.Values.{Ground, Bit, Word, Name, More, grounds, World, Valuation, IsValuation, tail_of}
 use Rattle.cb_model.specs.Equations.{Item, Meets}
-use Rattle.cb_model.specs.Answers.{leaves, opens, is_leaf, is_open, is_open_step, InOrder, IsShape, values, with_opens}
+use Rattle.cb_model.specs.Answers.{leaves, opens, is_leaf, is_open, is_open_step, InOrder, values, with_opens}
 use Rattle.cb_laws.proofs.Shapes.{leaf-var, open-leaf, open-bus, open-term, open-node}
 use Rattle.cb_laws.proofs.OpenTrees.{Plain, Plains, ALeaf, ABus, AVar, AnInt, ANode, Nil, Cons, Place, closed, closed_all, plain_value, plain_values, values_closed, plain_leaves, all_leaves, shape_leaves, bus_places, plain_opens, all_opens, shape_opens}
 use Rattle.std.proofs.lemmas.Option.{get_or_from_slice_get}

@@ -1,11 +1,10 @@
 -- The steps over arguments and roots, and the walk as a whole.
-use Rattle.std.proofs.Common.{◌≡◌, ◌≢◌, ◌⊎◌, inl, inr, ℕ, zero, suc, ◌+◌, ◌-◌, ◌*◌, ◌<◌, ◌≤◌, ◌^◌, List, [], ◌∷◌, ◌++◌, length, drop, get_or, Bool, true, false, ◌||◌, nat_lt, Option, Some, None, refl, sym, ap, subst, ◌∙◌, arith, append_assoc, length-append}
+use Rattle.std.proofs.Common.{◌≡◌, ◌≢◌, ◌⊎◌, inl, inr, ℕ, suc, ◌+◌, ◌-◌, ◌*◌, ◌<◌, ◌≤◌, List, [], ◌∷◌, ◌++◌, length, drop, get_or, refl, sym, ap, subst, ◌∙◌, arith, append_assoc, length-append}
 use Rattle.std.proofs.lemmas.List.{append-nil}
 use Rattle.std.proofs.Math.Seq.{drop-cons}
-use Rattle.cb_laws.proofs.OpenTrees.{Plain, Plains, ALeaf, ABus, AVar, AnInt, ANode, Nil, Cons, Place, plain_leaves, all_leaves, plain_opens, all_opens}
+use Rattle.cb_laws.proofs.OpenTrees.{Plain, Plains, Nil, Cons, Place, plain_leaves, all_leaves, all_opens}
 use Rattle.cb_heap.specs.declared.Ref.{Ref}
 use Rattle.cb_heap.specs.declared.Stored.{Stored}
-use Rattle.cb_shape.specs.declared.Token.{Token}
 use Rattle.cb_shape.specs.declared.Token.TheVariants as token
 use Rattle.cb_shape.specs.declared.walk.Pending.{Pending}
 use Rattle.cb_shape.specs.declared.walk.Pending.TheVariants as pending
@@ -13,7 +12,7 @@ use Rattle.cb_shape.specs.declared.walk.Walk.{Walk}
 use Rattle.cb_shape.specs.Shapes.{firsts}
 use Rattle.cb_shape.specs.Terms.{IsTerm, AreTerms, AreRoots, how_many}
 use Rattle.cb_shape.specs.Tokens.{terms_tokens, all_places}
-use Rattle.cb_shape.specs.Walk.{Work, Whole, Rest, Tail, Terms, work_tokens, work_leaves, work_opens, work_places, told, leaves_of, opens_of, places_of, IsWork, AreWorks, turned, seen, Adds, Writes, GoesOn, Steps, Begins}
+use Rattle.cb_shape.specs.Walk.{Work, Rest, Terms, work_tokens, work_leaves, told, leaves_of, opens_of, places_of, IsWork, AreWorks, turned, seen, Adds, Steps, Begins}
 use Rattle.cb_shape.proofs.Places.{firsts_go_on}
 use Rattle.cb_shape.proofs.Opens.{firsts-append}
 use Rattle.cb_shape.proofs.Telling.{told-append, leaves-append, opens-append, places-append, turned-append, works-append, plain-writes, wrapped}

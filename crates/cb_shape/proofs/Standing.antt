@@ -11,8 +11,7 @@ use Rattle.cb_heap.specs.declared.Ref.{Ref}
 use Rattle.cb_heap.specs.declared.Stored.{Stored}
 use Rattle.cb_heap.specs.declared.Stored.TheVariants as cell
 use Rattle.cb_heap.specs.Finite.{IsFinite, ends, IsSorted, HaveSorts, AllFinite}
-use Rattle.cb_heap.specs.Heap.{Terms}
-use Rattle.cb_heap.specs.Links.{LeadsTo, arrives, goes, link_of}
+use Rattle.cb_heap.specs.Links.{arrives, goes, link_of}
 use Rattle.cb_heap.proofs.Steps.{some-inj}
 use Rattle.cb_shape.specs.Terms.{EndsAt, IsLeaf, IsBus, IsTerm, AreTerms, AreRoots, how_many}
 

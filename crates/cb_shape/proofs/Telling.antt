@@ -1,9 +1,9 @@
 -- What the steps of the walk tell.
-use Rattle.std.proofs.Common.{◌≡◌, inl, inr, ℕ, zero, suc, ◌+◌, ◌-◌, ◌<◌, ◌≤◌, nat_eq, List, [], ◌∷◌, ◌++◌, map, length, drop, get_or, Option, Some, None, Result, Ok, Err, OnOk, refl, sym, ap, subst, ◌∙◌, arith, append_assoc, length-append}
+use Rattle.std.proofs.Common.{◌≡◌, inl, ℕ, suc, ◌+◌, ◌≤◌, nat_eq, List, [], ◌∷◌, ◌++◌, length, Option, Result, Ok, Err, OnOk, refl, sym, ap, subst, ◌∙◌, arith, append_assoc, length-append}
 use Rattle.std.specs.List.{position_or_len}
 use Rattle.std.proofs.lemmas.List.{append-nil}
 use Rattle.indexmap.specs.IndexSet.{insert_key}
-use Rattle.cb_laws.proofs.OpenTrees.{Plain, Plains, ALeaf, ABus, AVar, AnInt, ANode, Nil, Cons, Place, bus_places, plain_leaves, all_leaves, plain_opens, all_opens}
+use Rattle.cb_laws.proofs.OpenTrees.{Plain, Plains, ANode, Nil, Cons, Place, bus_places, plain_leaves, all_leaves, plain_opens, all_opens}
 use Rattle.cb_heap.specs.declared.Ref.{Ref}
 use Rattle.cb_heap.specs.declared.Stored.{Stored}
 use Rattle.cb_shape.specs.declared.Token.{Token}
@@ -12,9 +12,9 @@ use Rattle.cb_shape.specs.declared.walk.Pending.{Pending}
 use Rattle.cb_shape.specs.declared.walk.Pending.TheVariants as pending
 use Rattle.cb_shape.specs.declared.walk.Walk.{Walk}
 use Rattle.cb_shape.specs.Shapes.{place_from, firsts}
-use Rattle.cb_shape.specs.Terms.{IsBus, IsTerm, AreTerms, AreRoots, how_many}
-use Rattle.cb_shape.specs.Tokens.{tail_tokens, tokens, rest_tokens, terms_tokens, plain_places, all_places}
-use Rattle.cb_shape.specs.Walk.{Work, Whole, Rest, Tail, Terms, work_tokens, work_leaves, work_opens, work_places, told, leaves_of, opens_of, places_of, IsWork, AreWorks, turned, place_in, seen, Adds, TellsName, Writes, GoesOn, Steps, Begins}
+use Rattle.cb_shape.specs.Terms.{IsBus, AreTerms, how_many}
+use Rattle.cb_shape.specs.Tokens.{tail_tokens, tokens, rest_tokens, plain_places}
+use Rattle.cb_shape.specs.Walk.{Work, Whole, Rest, Tail, work_tokens, work_leaves, work_opens, work_places, told, leaves_of, opens_of, places_of, IsWork, AreWorks, turned, place_in, seen, Adds, TellsName, Writes, Steps, Begins}
 use Rattle.cb_shape.proofs.Opens.{open-number, open-seen, firsts-none}
 
 pub on-ok : {A E P Q : Type 0} (r : Result A E) → (P → Q) → OnOk r P → OnOk r Q

@@ -1,13 +1,11 @@
 -- The pieces of terms, one after another, are their text.
-use Rattle.std.proofs.Common.{◌≡◌, ℕ, zero, suc, ◌+◌, ◌≤◌, List, [], ◌∷◌, ◌++◌, map, length, get_or, codes, Option, Some, None, refl, sym, ap, subst, ◌∙◌, arith, append_assoc}
-use Rattle.std.specs.Prelude.{option_map, flat_map}
+use Rattle.std.proofs.Common.{◌≡◌, ℕ, zero, suc, ◌+◌, ◌≤◌, List, [], ◌∷◌, ◌++◌, map, length, get_or, codes, Option, Some, None, refl, sym, ap, ◌∙◌, arith, append_assoc}
+use Rattle.std.specs.Prelude.{option_map}
 use Rattle.std.specs.Fmt.{signed_decimal}
 use Rattle.std.proofs.lemmas.List.{append-nil}
 use Rattle.std.proofs.lemmas.Grind.{flat_map-append}
 use Rattle.cb_model.specs.declared.Sort.TheVariants as sort
-use Rattle.cb_model.specs.declared.Expr.{Expr}
 use Rattle.cb_model.specs.declared.Expr.TheVariants as expr
-use Rattle.cb_model.specs.declared.Tree.{Tree}
 use Rattle.cb_model.specs.declared.Tree.TheOpen.{Tree-F}
 use Rattle.cb_model.specs.declared.Tree.TheVariants as tree
 use Rattle.cb_model.specs.declared.Tree.TheFolds.{fold-roll-Tree}
@@ -18,7 +16,6 @@ use Rattle.cb_model.specs.Line.{Names, open_text, bus_text, node_text, tree_text
 use Rattle.cb_laws.proofs.Shapes.{number-var, text-leaf, text-bus, text-term, text-node}
 use Rattle.cb_laws.proofs.OpenTrees.{Plain, Plains, ALeaf, ABus, AVar, AnInt, ANode, Nil, Cons, Place, closed, closed_all, plain_leaves, all_opens}
 use Rattle.cb_shape.specs.declared.Token.{Token}
-use Rattle.cb_shape.specs.declared.Token.TheVariants as token
 use Rattle.cb_shape.specs.Shapes.{place_from, firsts, numbered, numbered_all, shape_of}
 use Rattle.cb_shape.specs.Terms.{how_many}
 use Rattle.cb_shape.specs.Tokens.{tail_tokens, bus_tokens, tokens, argument_tokens, rest_tokens, terms_tokens, told_tokens}

@@ -1,5 +1,5 @@
 -- Laws of terms in cells: each is the contract of a function that does nothing.
-use Rattle.std.specs.Prelude.{ℕ, ◌<◌, List, length}
+use Rattle.std.specs.Prelude.{◌<◌, List, length}
 use Rattle.cb_model.specs.Bits.{Each}
 use Rattle.cb_model.specs.Values.{Sorts}
 use Rattle.cb_laws.proofs.OpenTrees.{Plains}

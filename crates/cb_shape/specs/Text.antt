@@ -1,10 +1,9 @@
 -- The text of an answer's pieces.
-use Rattle.std.specs.Prelude.{◌≡◌, ℕ, zero, suc, ◌+◌, ◌<◌, ◌≤◌, List, [], ◌∷◌, ◌++◌, map, length, get_or, codes, flat_map}
+use Rattle.std.specs.Prelude.{◌≡◌, ℕ, zero, suc, ◌≤◌, List, [], ◌∷◌, ◌++◌, map, length, get_or, codes, flat_map}
 use Rattle.std.specs.Fmt.{signed_decimal}
-use Rattle.cb_model.specs.Bits.{Each}
 use Rattle.cb_model.specs.Text.{Text, joined, name_text}
 use Rattle.cb_model.specs.Line.{Names, open_text, tree_text, line_items}
-use Rattle.cb_laws.proofs.OpenTrees.{Plain, Plains, ALeaf, ABus, AVar, AnInt, ANode, Nil, Cons, all_leaves}
+use Rattle.cb_laws.proofs.OpenTrees.{Plains}
 use Rattle.cb_shape.specs.declared.Token.{Token}
 use Rattle.cb_shape.specs.declared.Token.TheVariants as token
 use Rattle.cb_shape.specs.Shapes.{shape_of}

@@ -1,9 +1,8 @@
 -- The pieces of the text of terms, in order of print.
-use Rattle.std.specs.Prelude.{◌≡◌, ℕ, zero, suc, ◌+◌, ◌≤◌, Bool, true, false, List, [], ◌∷◌, ◌++◌, length, sum_by, Option, Some, None}
-use Rattle.cb_model.specs.declared.Sort.{Sort}
+use Rattle.std.specs.Prelude.{◌≡◌, ℕ, suc, ◌+◌, true, false, List, [], ◌∷◌, ◌++◌, length, Option, Some, None}
 use Rattle.cb_model.specs.declared.Sort.TheVariants as sort
 use Rattle.cb_model.specs.Line.{is_wide}
-use Rattle.cb_laws.proofs.OpenTrees.{Plain, Plains, ALeaf, ABus, AVar, AnInt, ANode, Nil, Cons, Place, plain_leaves, all_leaves, plain_opens, all_opens}
+use Rattle.cb_laws.proofs.OpenTrees.{Plain, Plains, ALeaf, ABus, AVar, AnInt, ANode, Nil, Cons, Place, plain_leaves, all_leaves, all_opens}
 use Rattle.cb_shape.specs.declared.Token.{Token}
 use Rattle.cb_shape.specs.declared.Token.TheVariants as token
 use Rattle.cb_shape.specs.declared.Printed.{Printed}

@@ -1,5 +1,4 @@
-use Rattle.std.proofs.Common.{rules, ◌≡◌, ◌+◌, ◌≤◌, ◌++◌, length, [], ◌∷◌, refl, sym, ap, ◌∙◌, arith, length-append}
-use Rattle.cb_laws.proofs.OpenTrees.{all_leaves}
+use Rattle.std.proofs.Common.{rules, ◌≡◌, ◌++◌, length, [], ◌∷◌, sym, ap, ◌∙◌, arith, length-append}
 use Rattle.cb_shape.specs.declared.walk.Pending.TheVariants as pending
 use Rattle.cb_shape.specs.Walk.{leaves_of, turned}
 use Rattle.cb_shape.proofs.Resting.{walking-starts, walking-last, walking-on, walking-falls, walking-ends}

@@ -1,4 +1,4 @@
-use Rattle.std.proofs.Common.{◌≡◌, ℕ, ◌+◌, ◌-◌, ◌*◌, ◌≤◌, length}
+use Rattle.std.proofs.Common.{◌+◌, ◌-◌, ◌*◌, ◌≤◌, length}
 use Rattle.cb_laws.proofs.OpenTrees.{Plains}
 use Rattle.cb_shape.specs.Terms.{AreRoots}
 use Rattle.cb_shape.proofs.Resting.{IsWalking}

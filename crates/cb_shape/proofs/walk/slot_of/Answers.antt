@@ -1,5 +1,4 @@
 use Rattle.std.proofs.Common.{subst, sym, ap, ◌∙◌}
-use Rattle.cb_heap.specs.declared.Stored.TheVariants as cell
 use Rattle.cb_shape.proofs.Ends.{leaf-last, leaf-slot}
 use Rattle.cb_shape.proofs.walk.slot_of.Goals as goal
 

@@ -1,5 +1,4 @@
-use Rattle.std.proofs.Common.{subst, sym}
-use Rattle.cb_shape.specs.declared.walk.Pending.TheVariants as pending
+use Rattle.std.proofs.Common.{subst}
 use Rattle.cb_shape.specs.Walk.{IsWork}
 use Rattle.cb_shape.proofs.Telling.{on-ok}
 use Rattle.cb_shape.proofs.Stepping.{cell-steps, rest-steps, tail-steps}

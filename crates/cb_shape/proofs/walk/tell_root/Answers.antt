@@ -1,5 +1,4 @@
 use Rattle.std.proofs.Common.{refl}
-use Rattle.cb_heap.specs.declared.Ref.{Ref}
 use Rattle.cb_shape.proofs.Telling.{on-ok}
 use Rattle.cb_shape.proofs.Resting.{next-root, roots-end, roots-go-on}
 use Rattle.cb_shape.proofs.walk.tell_root.Goals as goal

@@ -1,4 +1,4 @@
-use Rattle.std.proofs.Common.{◌≡◌, ℕ, ◌+◌, ◌≤◌, List, [], ◌∷◌, ◌++◌, length, Option, Some, None, refl, sym, ap, subst, ◌∙◌, arith, append_assoc, length-append, inl, inr, nat_eq}
+use Rattle.std.proofs.Common.{◌≡◌, [], ◌∷◌, ◌++◌, length, Some, None, refl, sym, ap, subst, ◌∙◌, arith, append_assoc, length-append, inl, inr, nat_eq}
 use Rattle.std.specs.List.{position_or_len}
 use Rattle.indexmap.specs.IndexSet.{insert_key}
 use Rattle.cb_shape.specs.declared.walk.Walk.{Walk}
@@ -10,8 +10,8 @@ use Rattle.cb_heap.specs.declared.Stored.{Stored}
 use Rattle.cb_heap.specs.declared.Stored.TheVariants as cell
 use Rattle.cb_shape.specs.declared.Token.TheVariants as token
 use Rattle.cb_shape.specs.declared.walk.Pending.TheVariants as pending
-use Rattle.cb_shape.specs.Walk.{Tail, Adds, Steps, GoesOn}
-use Rattle.cb_shape.proofs.Ends.{term-there, bus-ends, AtBus, bus-at, bus-nil, bus-var}
+use Rattle.cb_shape.specs.Walk.{Tail, Adds, Steps}
+use Rattle.cb_shape.proofs.Ends.{term-there, bus-ends, bus-at, bus-nil, bus-var}
 use Rattle.cb_shape.proofs.Opens.{bus-place}
 use Rattle.cb_shape.proofs.Telling.{on-ok, plain-writes, open-writes, element-writes}
 use Rattle.cb_shape.proofs.walk.tell_tail.Goals as goal

@@ -1,0 +1,3 @@
+pub mod Leaves
+pub mod Starts
+pub mod Numbered

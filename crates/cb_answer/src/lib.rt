@@ -1,0 +1,14 @@
+//! The line of an answer.
+#![tactic(auto)]
+
+mod pieces;
+
+use cb_heap::Ref;
+pub use pieces::{Told, line};
+
+/// What a line tells.
+#[derive(Clone, Copy, Drop)]
+pub enum Item<'a> {
+    /// A printed variable: its name, and the cell of its value.
+    Var(&'a [u8], Ref),
+}
