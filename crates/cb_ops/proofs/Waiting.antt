@@ -1,5 +1,5 @@
 -- The list of waiting calls: its answers, its room, and its end.
-use Rattle.std.proofs.Common.{◌≡◌, ℕ, ◌+◌, ◌*◌, ◌-◌, ◌<◌, ◌≤◌, ◌^◌, min, Bool, true, false, List, [], ◌∷◌, ◌++◌, length, if◌then◌else◌, Option, Some, None, IfSome, ◌⊎◌, refl, sym, ap, subst, ◌∙◌, inl, inr, arith, nat_eq, sum_by, rules, Result, Err}
+use Rattle.std.proofs.Common.{◌≡◌, ℕ, ◌+◌, ◌*◌, ◌-◌, ◌<◌, ◌≤◌, ◌^◌, Bool, true, false, List, [], ◌∷◌, ◌++◌, length, if◌then◌else◌, Option, Some, None, IfSome, refl, sym, ap, subst, ◌∙◌, inl, inr, arith, nat_eq, sum_by, rules, Result, Err}
 use Rattle.std.proofs.lemmas.Bool.{cases_Bool, cases_lt, true≢false}
 use Rattle.std.proofs.lemmas.List.Sums.{sum_by_push}
 use Rattle.std.proofs.lemmas.Nat.{pow_pos, pow-add}
@@ -11,7 +11,7 @@ use Rattle.cb_dd.specs.declared.Node.{Node}
 use Rattle.cb_dd.specs.declared.Stop.{Stop}
 use Rattle.cb_dd.specs.declared.Stop.TheVariants.{Nodes, Memory}
 use Rattle.cb_dd.specs.Diagram.{Store, IsNode, IsDiagram, function_of, level_of}
-use Rattle.cb_dd.proofs.Diagrams.{Kind, bottom, top, inner, kind_of, function_of-put, level_of-node}
+use Rattle.cb_dd.proofs.Diagrams.{bottom, top, inner, kind_of, function_of-put, level_of-node}
 use Rattle.cb_ops.specs.declared.calls.Choice.{Choice}
 use Rattle.cb_ops.specs.declared.calls.Operation.{Operation}
 use Rattle.cb_ops.specs.declared.calls.Operation.TheVariants.{Ite, Xor}
@@ -21,7 +21,7 @@ use Rattle.cb_ops.specs.declared.calls.Left.TheVariants as left
 use Rattle.cb_ops.specs.declared.calls.Turn.{Turn}
 use Rattle.cb_ops.specs.declared.calls.Turn.TheVariants as turn
 use Rattle.cb_ops.specs.Ops.{Grows, IsIte, IsXor, DependsOn, DependAll, Room, HasCause}
-use Rattle.cb_ops.specs.Waiting.{combined, value_of, IsValue, AreCalled, IsPart, IsHalf, HasLeft, Waits, IsAnswered, IsOpen, IsPut, level_of_call, IsClosed, AskedHigh, Asked, Resumed, bit_of, fulls_after_turn}
+use Rattle.cb_ops.specs.Waiting.{combined, value_of, IsValue, AreCalled, IsPart, IsHalf, HasLeft, Waits, IsAnswered, IsOpen, IsPut, level_of_call, Asked, Resumed, bit_of, fulls_after_turn}
 use Rattle.cb_ops.proofs.Ite.{put-id, essential, grown-node, grown-function, grown-level, grown-child, grown-cofactor, Grows-same, Grows-then, grown-depends, cofactor-depends, without, without-lt, listed, least-three}
 
 pub combined-all : (o : Operation) (b c x y z w : Bool) → b ≡ c → x ≡ z → y ≡ w → combined o b x y ≡ combined o c z w
