@@ -1,16 +1,15 @@
 -- The pieces of terms have numbers that are there.
-use Rattle.std.proofs.Common.{◌≡◌, ℕ, zero, suc, ◌+◌, ◌<◌, ◌≤◌, List, [], ◌∷◌, ◌++◌, map, length, Option, Some, None, refl, sym, ap, subst, ◌∙◌, arith, append_assoc, length-append}
+use Rattle.std.proofs.Common.{◌≡◌, ℕ, suc, ◌+◌, ◌≤◌, List, [], ◌∷◌, ◌++◌, length, Option, Some, None, sym, ap, subst, ◌∙◌, arith, length-append}
 use Rattle.std.proofs.lemmas.List.{length-map}
 use Rattle.cb_model.specs.Bits.{Each}
 use Rattle.cb_model.specs.Text.{Text}
-use Rattle.cb_model.specs.Line.{Names}
 use Rattle.cb_boole.specs.Elimination.{Function}
 use Rattle.cb_laws.proofs.OpenTrees.{Plain, Plains, ALeaf, ABus, AVar, AnInt, ANode, Nil, Cons, Place, plain_leaves, all_leaves, all_opens}
 use Rattle.cb_shape.specs.declared.Printed.{Printed}
 use Rattle.cb_shape.specs.declared.Token.{Token}
 use Rattle.cb_shape.specs.Shapes.{firsts}
 use Rattle.cb_shape.specs.Terms.{how_many}
-use Rattle.cb_shape.specs.Tokens.{tail_tokens, bus_tokens, tokens, argument_tokens, rest_tokens, terms_tokens, told_tokens}
+use Rattle.cb_shape.specs.Tokens.{tail_tokens, bus_tokens, tokens, argument_tokens, rest_tokens, terms_tokens}
 use Rattle.cb_shape.proofs.Texts.{pieces-line}
 use Rattle.cb_answer.specs.declared.Item.{Item}
 use Rattle.cb_answer.specs.Lines.{IsNumbered, HasNames, HaveNames, AreTold, item_name, line_names, form_leaf, form_text, form_line}

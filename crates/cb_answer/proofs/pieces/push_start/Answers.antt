@@ -1,6 +1,4 @@
-use Rattle.std.proofs.Common.{◌++◌, codes, ap, ◌∙◌, sym, append_assoc}
 use Rattle.cb_shape.proofs.Telling.{on-ok}
-use Rattle.cb_answer.specs.Lines.{item_name}
 use Rattle.cb_answer.proofs.Starts.{next-told}
 use Rattle.cb_answer.proofs.pieces.push_start.Goals as goal
 
