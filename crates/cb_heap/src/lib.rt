@@ -278,7 +278,8 @@ impl Heap {
     }
 
     /// The k-th, from 0, of the cells that were bound since the moment and that no undo has taken back, in order of
-    /// binding; a value that became another cell's counts as bound. `None` past the last. It takes no memory.
+    /// binding; a value that became another cell's counts as bound, and so does a bound cell that was led to the end of
+    /// its links. `None` past the last. It takes no memory.
     pub fn bound(&self, since: HeapMark, k: u64) -> Option<Ref>
         requires { IsMoment since self.now }
         ensures listed { option_map (λ r. r.0) result ≡ slice_get (rewritten_since since self.now) k }
