@@ -1,16 +1,21 @@
+//! Answers worked out by hand.
+
 ghost use Rattle.std.specs.Prelude.{◌≡◌, ◌<◌, length, true, IfOk};
 ghost use Rattle.cb_model.specs.Bits.{Each};
 ghost use Rattle.cb_model.specs.Values.{in_scope};
-ghost use Rattle.cb_dd.specs.Diagram.{IsNode};
 ghost use Rattle.cb_elim.specs.Store.{IsStore};
 
-use crate::setup::{end, with_variables};
+use crate::setup::{end, said, with_variables};
 use cb_dd::{Node, Stop};
 use cb_elim::{Slot, Store};
 use cb_model::Expr;
+use cb_ops::Ops;
 use cb_project::{Projected, general};
+use cb_trial::checked::parts;
+use cb_trial::text::push;
 use sqlite_items::Items;
 use std::alloc::{AllocError, Global};
+use std::io::Write;
 use std::test::Fail;
 
 // The first variable, turned where the constant is 1.
@@ -33,6 +38,16 @@ fn product(alloc: Global) -> Result<Expr, AllocError>
     Ok(Expr::And(factors))
 }
 
+// One of both variables.
+fn either(alloc: Global) -> Result<Expr, AllocError>
+    ensures { IfOk result (λ e. in_scope 1 2 e ≡ true) }
+{
+    let mut operands = Items::new(alloc);
+    operands.push(Expr::Var(0))?;
+    operands.push(Expr::Var(1))?;
+    Ok(Expr::Or(operands))
+}
+
 // Adds the equation of two expressions over two variables.
 fn equate(store: &mut Store, f: &Expr, g: &Expr) -> Result<bool, Stop>
     requires store { IsStore store.old }
@@ -51,71 +66,51 @@ fn equate(store: &mut Store, f: &Expr, g: &Expr) -> Result<bool, Stop>
     store.unify(left, right)
 }
 
-// What the answer's two nodes must be, where the first parameter has level 3.
+// An answer: the level of its first parameter, and of each of its two nodes the values under the eight assignments of the
+// constant and the two parameters, of which the first is all 0 and the second parameter changes fastest.
 #[derive(Clone, Copy)]
-enum Wanted {
-    // the first parameter, and the first parameter turned where the constant is 1
-    Turned,
-    // the second parameter where the constant is 0, else 1; and before it the first parameter
-    HalfBehind,
-    // the first parameter where the constant is 0, else 1; and behind it the second parameter
-    HalfBefore,
+struct Answer {
+    first: u32,
+    tables: (u8, u8),
 }
 
-// Whether the node is the bit of the level.
-fn is_bit(store: &Store, n: Node, level: u32) -> bool
-    requires { IsNode store.now.nodes.triples n.0 }
-{
-    store.read().parts(n) == Some((level, Node::ZERO, Node::ONE))
-}
-
-// Whether the node is the level's bit where the constant is 0, and 1 where it is 1.
-fn is_half(store: &Store, n: Node, level: u32) -> bool
-    requires { IsNode store.now.nodes.triples n.0 }
-{
-    match store.read().parts(n) {
-        Some((0, low, high)) => high == Node::ONE && is_bit(store, low, level),
-        _ => false,
-    }
-}
-
-// Whether the node is the first one where the constant is 0, and the level's bit turned where it is 1.
-fn is_turned(store: &Store, n: Node, first: Node, level: u32) -> bool
-    requires { IsNode store.now.nodes.triples n.0 }
-{
-    match store.read().parts(n) {
-        Some((0, low, high)) => {
-            low == first && store.read().parts(high) == Some((level, Node::ONE, Node::ZERO))
+// The node's value where the constant, the parameter of level 3 and that of level 4 have these bits.
+fn value(ops: &Ops, node: Node, bits: (bool, bool, bool)) -> bool {
+    let mut here = node;
+    for _ in 0..3 {
+        if let Some((level, low, high)) = parts(ops, here) {
+            let bit = match level {
+                0 => bits.0,
+                3 => bits.1,
+                _ => bits.2,
+            };
+            here = if bit { high } else { low };
         }
-        _ => false,
     }
+    here == Node::ONE
 }
 
-// Whether the nodes are as wanted.
-fn are_wanted(store: &Store, nodes: &[Node], wanted: Wanted) -> bool
-    requires { Each (λ n. IsNode store.now.nodes.triples n.0) nodes.now }
-{
-    match nodes {
-        [f, g] => match wanted {
-            Wanted::Turned => is_bit(store, *f, 3) && is_turned(store, *g, *f, 3),
-            Wanted::HalfBehind => is_bit(store, *f, 3) && is_half(store, *g, 4),
-            Wanted::HalfBefore => is_half(store, *f, 3) && is_bit(store, *g, 4),
-        },
-        _ => false,
+// The node's values under all assignments, the first in the highest bit.
+fn table(ops: &Ops, node: Node) -> u8 {
+    let mut table = 0u8;
+    for row in 0..8u32 {
+        if value(ops, node, (row / 4 == 1, row / 2 % 2 == 1, row % 2 == 1)) {
+            table |= 128 >> row;
+        }
     }
+    table
 }
 
 // Lets an answer go.
 fn end_form(_form: Projected) {}
 
-// Whether the answer for the leaves is as wanted, after an equation that was solved.
-fn is_answered(
+// The answer for the leaves, after an equation; one of level 0 where it has no solution.
+fn answered(
     alloc: Global,
     store: &mut Store,
     sides: (&Expr, &Expr),
     leaves: &[Slot; 2],
-    wanted: Wanted,
-) -> Result<bool, Stop>
+) -> Result<Answer, Stop>
     requires store { IsStore store.old }
     requires constants { store.old.constants ≡ 1 }
     requires drawn { store.old.drawn ≡ 3 }
@@ -126,57 +121,74 @@ fn is_answered(
 {
     let solved = equate(store, sides.0, sides.1)?;
     let form = general(alloc, store, leaves)?;
-    let answered = form.first == 3 && are_wanted(store, form.nodes.as_slice(), wanted);
+    let first = if solved { form.first } else { 0 };
+    let tables = match form.nodes.as_slice() {
+        [f, g] => (table(store.read(), *f), table(store.read(), *g)),
+        _ => (0, 0),
+    };
     end_form(form);
-    Ok(solved && answered)
+    Ok(Answer { first, tables })
 }
 
 // The same in a store of its own.
-fn try_form(
-    alloc: Global,
-    sides: (&Expr, &Expr),
-    leaves: &[Slot; 2],
-    wanted: Wanted,
-) -> Result<bool, Stop>
+fn try_form(alloc: Global, sides: (&Expr, &Expr), leaves: &[Slot; 2]) -> Result<Answer, Stop>
     requires left { in_scope 1 2 sides.0.now ≡ true }
     requires right { in_scope 1 2 sides.1.now ≡ true }
     requires leaves { Each (λ s. s.0 < 2) leaves.now }
 {
     let mut store = with_variables(alloc, 100, 2)?;
-    let answered = is_answered(alloc, &mut store, sides, leaves, wanted);
+    let answer = answered(alloc, &mut store, sides, leaves);
     end(store);
-    answered
+    answer
 }
 
-// The second variable is the first one turned. In the order of the levels the values are the form as they stand; in the
-// other the form is found leaf by leaf. Both are the same, since each variable is the other one turned.
-fn try_turned(alloc: Global, turned: &Expr) -> Result<bool, Stop>
-    requires { in_scope 1 2 turned.now ≡ true }
+// Writes an answer.
+fn push_answer(answer: Result<Answer, Stop>, out: &mut Vec<u8>) -> Result<(), Fail> {
+    match answer {
+        Ok(answer) => {
+            let (f, g) = answer.tables;
+            write!(out, " {}: {f:08b} {g:08b}", answer.first)?;
+            Ok(())
+        }
+        Err(stop) => push(out, said(Err(stop))),
+    }
+}
+
+// Writes the answers for both orders of the variables. In the order of the levels the values are the form as they stand;
+// in the other the form is found leaf by leaf.
+fn tell_orders(alloc: Global, f: &Expr, g: &Expr, out: &mut Vec<u8>) -> Result<(), Fail>
+    requires left { in_scope 1 2 f.now ≡ true }
+    requires right { in_scope 1 2 g.now ≡ true }
 {
-    let sides = (turned, &Expr::Var(1));
-    let forward = try_form(alloc, sides, &[Slot(0), Slot(1)], Wanted::Turned)?;
-    let back = try_form(alloc, sides, &[Slot(1), Slot(0)], Wanted::Turned)?;
-    Ok(forward && back)
+    push_answer(try_form(alloc, (f, g), &[Slot(0), Slot(1)]), out)?;
+    push_answer(try_form(alloc, (f, g), &[Slot(1), Slot(0)]), out)
 }
 
-// The product of the first variable and the constant is the constant; nothing is said of the second variable.
-fn try_half(alloc: Global, product: &Expr) -> Result<bool, Stop>
-    requires { in_scope 1 2 product.now ≡ true }
-{
-    let sides = (product, &Expr::Const(0));
-    let before = try_form(alloc, sides, &[Slot(0), Slot(1)], Wanted::HalfBefore)?;
-    let behind = try_form(alloc, sides, &[Slot(1), Slot(0)], Wanted::HalfBehind)?;
-    Ok(before && behind)
-}
-
-#[test]
-fn an_answer_is_the_form_worked_out_by_hand(rt: HostRuntime) -> Result<(), Fail> {
-    let times = product(rt.alloc())?;
-    let half = try_half(rt.alloc(), &times)?;
-    let other = turned(rt.alloc())?;
-    let both = try_turned(rt.alloc(), &other)?;
-    assert_eq!(rt; (half, both), (true, true));
-    Ok(())
+/// Writes the answers after an equation: that the product of the first variable and the constant is the constant, that the
+/// second variable is the first one, turned where the constant is 1, or that one of both variables is 1 exactly where the
+/// constant is; for another word, whether a variable without a slot is 0.
+pub(crate) fn tell(alloc: Global, what: &str, out: &mut Vec<u8>) -> Result<(), Fail> {
+    match what {
+        "half" => {
+            let times = product(alloc)?;
+            let told = tell_orders(alloc, &times, &Expr::Const(0), out);
+            drop(times);
+            told
+        }
+        "turned" => {
+            let other = turned(alloc)?;
+            let told = tell_orders(alloc, &other, &Expr::Var(1), out);
+            drop(other);
+            told
+        }
+        "either" => {
+            let both = either(alloc)?;
+            let told = tell_orders(alloc, &both, &Expr::Const(0), out);
+            drop(both);
+            told
+        }
+        _ => push(out, said(try_absent(alloc))),
+    }
 }
 
 // A variable that has no slot is 0.
@@ -197,11 +209,4 @@ fn is_zero(store: &mut Store) -> Result<bool, Stop>
     let absent = store.expr(&Expr::Var(0), &vars)?;
     let there = store.expr(&Expr::Var(1), &vars)?;
     Ok(absent == Node::ZERO && there == x)
-}
-
-#[test]
-fn a_variable_without_a_slot_is_0(rt: HostRuntime) -> Result<(), Fail> {
-    let absent = try_absent(rt.alloc())?;
-    assert!(rt; absent);
-    Ok(())
 }

@@ -1,13 +1,17 @@
+//! Stores with room for few nodes.
+
 ghost use Rattle.std.specs.Prelude.{◌≡◌, length};
 ghost use Rattle.cb_elim.specs.Store.{IsStore, IsArgument};
 
 use crate::setup::{end, seen, with_variables};
 use cb_dd::{Node, Stop};
 use cb_elim::{Slot, Store};
+use cb_trial::text::push;
 use std::alloc::Global;
+use std::test::Fail;
 
 // How a list of equations ended.
-#[derive(Clone, Copy, PartialEq, Debug)]
+#[derive(Clone, Copy, PartialEq)]
 enum Ending {
     Solved,
     Refused,
@@ -81,26 +85,30 @@ fn chain(alloc: Global, budget: usize) -> Result<Ending, Stop> {
     ending
 }
 
-// The forty variables are the constant.
-#[test]
-fn a_chain_of_forty_is_the_constant(rt: HostRuntime) {
-    assert_eq!(rt; chain(rt.alloc(), 1000), Ok(Ending::Solved));
+/// Writes how the chain ends in a store for so many nodes.
+pub(crate) fn tell_chain(alloc: Global, budget: u32, out: &mut Vec<u8>) -> Result<(), Fail> {
+    let word = match chain(alloc, budget as usize) {
+        Ok(Ending::Solved) => " solved",
+        Ok(Ending::Refused) => " refused",
+        Ok(Ending::Full(true)) => " full as before",
+        Ok(Ending::Full(false)) => " full and changed",
+        Err(Stop::Nodes) => " full",
+        Err(Stop::Memory) => " memory",
+    };
+    push(out, word)
 }
 
-// Every budget below what the chain needs stops it, and the equation that stops leaves the store as it was. It needs
-// the nodes of the variables and of the constant at least, and a few for each variable at most.
-#[test]
-fn a_full_store_is_as_before(rt: HostRuntime) {
-    for budget in 0..200 {
-        match chain(rt.alloc(), budget) {
-            Err(Stop::Nodes) => {}
-            Ok(Ending::Full(same)) => assert!(rt; same, "{budget}"),
-            ending => {
-                assert_eq!(rt; ending, Ok(Ending::Solved));
-                assert!(rt; 41 <= budget);
-                return;
+/// Writes whether every budget below what the chain needs stops it, the equation that stops leaves the store as it was, and
+/// the first budget that is enough is at least that of the nodes of the variables and of the constant.
+pub(crate) fn tell_budgets(alloc: Global, most: u32, out: &mut Vec<u8>) -> Result<(), Fail> {
+    for budget in 0..most {
+        match chain(alloc, budget as usize) {
+            Err(Stop::Nodes) | Ok(Ending::Full(true)) => {}
+            Ok(Ending::Solved) => {
+                return push(out, if budget < 41 { " too early" } else { " enough" });
             }
+            _ => return push(out, " other"),
         }
     }
-    assert!(rt; false, "a budget is enough");
+    push(out, " never enough")
 }

@@ -1,261 +1,276 @@
-use cb_host::{
-    Failed, Files, HostFiles, HostInput, HostOutput, Load, MemFiles, MemSink, MemSource, Sink,
-    Source, SureFiles, SureSink, SureSource, read_within, write_all,
-};
-use std::alloc::Global;
-use std::io::{Read, Write};
-use std::test::Fail;
-use std::{fs, io};
+//! Files, sources and sinks: those in memory, and the adapters over the system's.
 
-// The files that the tests of both kinds load: `a` stands twice, and its first entry counts.
-fn listed(alloc: Global) -> Result<Vec<(String, Vec<u8>)>, Fail> {
-    let mut list = Vec::new(alloc);
-    for (name, bytes) in [("a", "abc"), ("b", ""), ("a", "x")] {
+ghost use Rattle.std.specs.Prelude.{◌<◌, length};
+
+use cb_host::{
+    Failed, Files, HostFiles, HostInput, Load, MemFiles, MemSink, MemSource, Sink, Source,
+    SureFiles, SureSink, SureSource, read_within, write_all,
+};
+use cb_trial::text::{push, push_number};
+use std::alloc::Global;
+use std::fs;
+use std::test::Fail;
+
+/// Writes what comes of a line's words: which object is made, and what is asked of it.
+pub fn tell(rt: HostRuntime, word: &str, rest: &str, out: &mut Vec<u8>) -> Result<(), Fail> {
+    let alloc = rt.alloc();
+    let (first, more) = rest.split_once(' ').unwrap_or((rest, ""));
+    match word {
+        "mem_files" => tell_mem_files(alloc, first, more, out),
+        "sure_files" => tell_sure_files(alloc, rest, out),
+        "system_files" => tell_loads(alloc, &mut HostFiles::new(rt), rest, out),
+        "long_file" => tell_long(rt, first, more, out),
+        "mem_source" => tell_mem_source(alloc, first, more, out),
+        "sure_source" => tell_sure_source(alloc, rest, out),
+        "input" => tell_input(rt, first, more, out),
+        "within" => tell_within(alloc, first, more, out),
+        "mem_sink" => tell_mem_sink(alloc, first, more, out),
+        "sure_sink" => tell_sure_sink(alloc, first, more, out),
+        _ => Ok(()),
+    }
+}
+
+// The number of a word, 0 where it is none.
+fn number(word: &str) -> u32 {
+    word.parse().unwrap_or(0)
+}
+
+// Three entries, of which `a` has two: its first counts.
+fn push_entries(alloc: Global, list: &mut Vec<(String, Vec<u8>)>) -> Result<(), Fail> {
+    for (name, text) in [("a", "abc"), ("b", ""), ("a", "x")] {
         let name = String::from_str(alloc, name)?;
-        let bytes = Vec::from_slice(alloc, bytes.as_bytes())?;
+        let bytes = Vec::from_slice(alloc, text.as_bytes())?;
         list.push((name, bytes))?;
     }
-    Ok(list)
+    Ok(())
 }
 
-#[test]
-fn loads_from_memory(rt: HostRuntime) -> Result<(), Fail> {
-    let mut files = MemFiles::new(listed(rt.alloc())?, [6].to_vec(rt.alloc())?);
-    for (name, limit, load, text) in [
-        ("a", 3, Load::Done, "abc"),
-        ("a", 2, Load::Long, "abc"),
-        ("a", 1, Load::Long, "ab"),
-        ("b", 0, Load::Done, ""),
-        ("c", 9, Load::Failed, ""),
-        ("a", 9, Load::Failed, ""),
-        ("a", 4_294_967_295, Load::Done, "abc"),
-    ] {
-        let mut into = Vec::new(rt.alloc());
-        assert_eq!(rt;
-            files.load(name, &mut into, limit),
-            load,
-            "{name} up to {limit}"
-        );
-        assert_eq!(rt; into.as_slice(), text.as_bytes(), "{name} up to {limit}");
+// The same as a list.
+fn entries(alloc: Global) -> Result<Vec<(String, Vec<u8>)>, Fail> {
+    let mut list = Vec::new(alloc);
+    match push_entries(alloc, &mut list) {
+        Ok(()) => Ok(list),
+        Err(failed) => {
+            drop(list);
+            Err(failed)
+        }
+    }
+}
+
+// Files in memory of which one load fails.
+fn tell_mem_files(
+    alloc: Global,
+    failing: &str,
+    loads: &str,
+    out: &mut Vec<u8>,
+) -> Result<(), Fail> {
+    let failing = [u64::from(number(failing))].to_vec(alloc)?;
+    let list = entries(alloc)?;
+    let mut files = MemFiles::new(list, failing);
+    let told = tell_loads(alloc, &mut files, loads, out);
+    drop(files);
+    told
+}
+
+// Files in memory of which no load fails.
+fn tell_sure_files(alloc: Global, loads: &str, out: &mut Vec<u8>) -> Result<(), Fail> {
+    let mut files = SureFiles::new(entries(alloc)?);
+    let told = tell_loads(alloc, &mut files, loads, out);
+    drop(files);
+    told
+}
+
+// Loads files, each a name, `@` and a limit, one after another.
+fn tell_loads<F: Files>(
+    alloc: Global,
+    files: &mut F,
+    loads: &str,
+    out: &mut Vec<u8>,
+) -> Result<(), Fail> {
+    for word in loads.split_whitespace() {
+        let (name, limit) = word.split_once('@').unwrap_or((word, ""));
+        tell_load(alloc, files, name, number(limit), out)?;
     }
     Ok(())
 }
 
-#[test]
-fn loads_an_unlisted_name_as_an_empty_file(rt: HostRuntime) -> Result<(), Fail> {
-    let mut files = SureFiles::new(listed(rt.alloc())?);
-    for (name, limit, load, text) in [
-        ("a", 3, Load::Done, "abc"),
-        ("a", 0, Load::Long, "a"),
-        ("c", 0, Load::Done, ""),
-    ] {
-        let mut into = Vec::new(rt.alloc());
-        assert_eq!(rt;
-            files.load(name, &mut into, limit),
-            load,
-            "{name} up to {limit}"
-        );
-        assert_eq!(rt; into.as_slice(), text.as_bytes(), "{name} up to {limit}");
-    }
-    Ok(())
+// Loads a file, and writes how that ended and what the buffer holds.
+fn tell_load<F: Files>(
+    alloc: Global,
+    files: &mut F,
+    name: &str,
+    limit: u32,
+    out: &mut Vec<u8>,
+) -> Result<(), Fail> {
+    let mut into = Vec::new(alloc);
+    let load = files.load(name, &mut into, u64::from(limit));
+    let told = push_load(load, into.as_slice(), out);
+    drop(into);
+    told
 }
 
-#[test]
-fn reads_from_memory_in_steps(rt: HostRuntime) -> Result<(), Fail> {
-    let bytes = Vec::from_slice(rt.alloc(), b"abcde")?;
-    let mut source = MemSource::new(bytes, 2, [2].to_vec(rt.alloc())?);
-    let mut buf = [b'.'; 3];
-    for (answer, held) in [
-        (Ok(2), b"ab."),
-        (Err(Failed), b"ab."),
-        (Ok(2), b"cd."),
-        (Ok(1), b"ed."),
-        (Ok(0), b"ed."),
-    ] {
-        assert_eq!(rt; source.read(&mut buf), answer);
-        assert_eq!(rt; buf, *held);
-    }
-    Ok(())
+// Appends how a load ended, and bytes.
+fn push_load(load: Load, bytes: &[u8], out: &mut Vec<u8>) -> Result<(), Fail> {
+    let word = match load {
+        Load::Done => "done",
+        Load::Long => "long",
+        Load::Failed => "failed",
+        Load::Memory => "memory",
+    };
+    push(out, word)?;
+    push_bytes(bytes, out)
 }
 
-#[test]
-fn reads_to_the_end_or_past_the_limit(rt: HostRuntime) -> Result<(), Fail> {
-    for (limit, failing, load, held) in [
-        (5, 9, Load::Done, "abcde"),
-        (4, 9, Load::Long, "abcde"),
-        (2, 9, Load::Long, "abc"),
-        (5, 2, Load::Failed, ""),
-    ] {
-        let bytes = Vec::from_slice(rt.alloc(), b"abcde")?;
-        let mut source = MemSource::new(bytes, 2, [failing].to_vec(rt.alloc())?);
-        let mut into = Vec::new(rt.alloc());
-        assert_eq!(rt;
-            read_within(&mut source, &mut into, limit),
-            load,
-            "up to {limit}"
-        );
-        assert_eq!(rt; into.as_slice(), held.as_bytes(), "up to {limit}");
-    }
-    Ok(())
+// Appends bytes in quotes.
+fn push_bytes(bytes: &[u8], out: &mut Vec<u8>) -> Result<(), Fail> {
+    push(out, " '")?;
+    out.extend_from_slice(bytes)?;
+    push(out, "' ")
 }
 
-#[test]
-fn reads_all_there_is_room_for(rt: HostRuntime) -> Result<(), Fail> {
-    let mut source = SureSource::new(Vec::from_slice(rt.alloc(), b"abcde")?);
-    let mut buf = [b'.'; 3];
-    for (answer, held) in [(Ok(3), b"abc"), (Ok(2), b"dec"), (Ok(0), b"dec")] {
-        assert_eq!(rt; source.read(&mut buf), answer);
-        assert_eq!(rt; buf, *held);
-    }
-    Ok(())
-}
-
-#[test]
-fn writes_to_memory_until_a_call_fails(rt: HostRuntime) -> Result<(), Fail> {
-    for (room, step, failing, answer, written) in [
-        (9, 9, 2, Ok(()), "abcde"),
-        (5, 1, 6, Ok(()), "abcde"),
-        (9, 2, 1, Err(Failed), ""),
-        (9, 2, 2, Err(Failed), "ab"),
-        (9, 2, 3, Err(Failed), "abcd"),
-        (9, 2, 4, Ok(()), "abcde"),
-        (4, 9, 9, Err(Failed), "abcd"),
-        (0, 1, 9, Err(Failed), ""),
-    ] {
-        let mut sink = MemSink::new(rt.alloc(), room, step, [failing].to_vec(rt.alloc())?)?;
-        assert_eq!(rt;
-            write_all(&mut sink, b"abcde"),
-            answer,
-            "{room} {step} {failing}"
-        );
-        assert_eq!(rt;
-            sink.written(),
-            written.as_bytes(),
-            "{room} {step} {failing}"
-        );
-        assert_eq!(rt; write_all(&mut sink, b""), Ok(()));
-    }
-    Ok(())
-}
-
-#[test]
-fn keeps_the_first_bytes(rt: HostRuntime) -> Result<(), Fail> {
-    let mut sink = SureSink::new(rt.alloc(), 4)?;
-    for (piece, written) in [("abc", "abc"), ("", "abc"), ("def", "abcd"), ("g", "abcd")] {
-        assert_eq!(rt; write_all(&mut sink, piece.as_bytes()), Ok(()));
-        assert_eq!(rt; sink.written(), written.as_bytes());
-    }
-    Ok(())
-}
-
-// A file of its own name that a test wrote, a name that no file has, and a folder.
-#[test]
-fn loads_files_of_the_system(rt: HostRuntime) -> Result<(), Fail> {
-    let name = "cb_host_loads.tmp";
-    fs::write(&rt, name, "abc")?;
+// Loads a file of the system up to some limits; writes how each load ended, how many bytes the buffer holds, and whether
+// these are the first of the file.
+fn tell_long(rt: HostRuntime, name: &str, limits: &str, out: &mut Vec<u8>) -> Result<(), Fail> {
+    let text = fs::read_to_string(&rt, name)?;
     let mut files = HostFiles::new(rt);
-    for (name, limit, load, text) in [
-        (name, 3, Load::Done, "abc"),
-        (name, 2, Load::Long, "abc"),
-        (name, 1, Load::Long, "ab"),
-        (name, 0, Load::Long, "a"),
-        (name, 4_294_967_295, Load::Done, "abc"),
-        ("cb_host_missing.tmp", 9, Load::Failed, ""),
-        ("/", 9, Load::Failed, ""),
-        ("/dev/null", 0, Load::Done, ""),
-    ] {
-        let mut into = Vec::new(rt.alloc());
-        assert_eq!(rt;
-            files.load(name, &mut into, limit),
-            load,
-            "{name} up to {limit}"
-        );
-        assert_eq!(rt; into.as_slice(), text.as_bytes(), "{name} up to {limit}");
+    for word in limits.split_whitespace() {
+        tell_front(
+            rt.alloc(),
+            &mut files,
+            name,
+            number(word),
+            text.as_bytes(),
+            out,
+        )?;
     }
-    fs::remove_file(&rt, name)?;
     Ok(())
 }
 
-#[test]
-fn loads_a_long_file_of_the_system(rt: HostRuntime) -> Result<(), Fail> {
-    let name = "cb_host_long.tmp";
-    let mut text = String::new(rt.alloc());
-    for _ in 0..5_000 {
-        text.push_str("abcd")?;
-    }
-    fs::write(&rt, name, text.as_str())?;
-    let mut files = HostFiles::new(rt);
-    for (limit, load, count) in [
-        (20_000, Load::Done, 20_000),
-        (19_999, Load::Long, 20_000),
-        (8_192, Load::Long, 8_193),
-    ] {
-        let mut into = Vec::new(rt.alloc());
-        assert_eq!(rt; files.load(name, &mut into, limit), load, "up to {limit}");
-        assert_eq!(rt; into.len(), count, "up to {limit}");
-        assert!(rt;
-            text.as_bytes().starts_with(into.as_slice()),
-            "up to {limit}"
-        );
-    }
-    fs::remove_file(&rt, name)?;
-    Ok(())
+// The same up to one limit.
+fn tell_front<F: Files>(
+    alloc: Global,
+    files: &mut F,
+    name: &str,
+    limit: u32,
+    all: &[u8],
+    out: &mut Vec<u8>,
+) -> Result<(), Fail> {
+    let mut into = Vec::new(alloc);
+    let load = files.load(name, &mut into, u64::from(limit));
+    let is_front = all.starts_with(into.as_slice());
+    let count = into.len();
+    drop(into);
+    push_load(load, if is_front { b"first" } else { b"other" }, out)?;
+    push_number(alloc, out, i64::try_from(count).unwrap_or(0))?;
+    push(out, " ")
 }
 
-#[test]
-fn reads_past_the_end_of_an_input(rt: HostRuntime) -> Result<(), Fail> {
-    let name = "cb_host_reads.tmp";
-    fs::write(&rt, name, "abc")?;
+// A source in memory of the bytes `abcde`, which gives so many a call, and one of whose calls fails.
+fn source(alloc: Global, step: u32, failing: u32) -> Result<MemSource, Fail> {
+    let failing = [u64::from(failing)].to_vec(alloc)?;
+    let bytes = b"abcde".to_vec(alloc)?;
+    Ok(MemSource::new(bytes, step.max(1) as usize, failing))
+}
+
+// Reads from a source in memory: how many bytes a call gives, which call fails, and how many calls there are.
+fn tell_mem_source(alloc: Global, step: &str, more: &str, out: &mut Vec<u8>) -> Result<(), Fail> {
+    let (failing, times) = more.split_once(' ').unwrap_or((more, ""));
+    let mut source = source(alloc, number(step), number(failing))?;
+    let told = tell_reads(alloc, &mut source, &mut [b'.'; 3], number(times), out);
+    drop(source);
+    told
+}
+
+// Reads from a source in memory that gives all that there is room for.
+fn tell_sure_source(alloc: Global, times: &str, out: &mut Vec<u8>) -> Result<(), Fail> {
+    let mut source = SureSource::new(b"abcde".to_vec(alloc)?);
+    let told = tell_reads(alloc, &mut source, &mut [b'.'; 3], number(times), out);
+    drop(source);
+    told
+}
+
+// Reads from a file or a folder of the system as an input.
+fn tell_input(rt: HostRuntime, name: &str, times: &str, out: &mut Vec<u8>) -> Result<(), Fail> {
     let mut input = HostInput::new(fs::open(&rt, name)?);
-    let mut buf = [b'.'; 2];
-    for (answer, held) in [
-        (Ok(2), b"ab"),
-        (Ok(1), b"cb"),
-        (Ok(0), b"cb"),
-        (Ok(0), b"cb"),
-    ] {
-        assert_eq!(rt; input.read(&mut buf), answer);
-        assert_eq!(rt; buf, *held);
+    let told = tell_reads(rt.alloc(), &mut input, &mut [b'.'; 2], number(times), out);
+    drop(input);
+    told
+}
+
+// Reads so many times into one buffer, and writes what each read answers and what the buffer holds then.
+fn tell_reads<S: Source>(
+    alloc: Global,
+    source: &mut S,
+    buffer: &mut [u8],
+    times: u32,
+    out: &mut Vec<u8>,
+) -> Result<(), Fail>
+    requires room { 0 < length buffer.old }
+{
+    for _ in 0..times {
+        match source.read(buffer) {
+            Ok(count) => push_number(alloc, out, i64::try_from(count).unwrap_or(-1))?,
+            Err(Failed) => push(out, "failed")?,
+        }
+        push_bytes(buffer, out)?;
     }
-    fs::remove_file(&rt, name)?;
-    let mut folder = HostInput::new(fs::open(&rt, "/")?);
-    assert_eq!(rt; folder.read(&mut buf), Err(Failed));
     Ok(())
 }
 
-// A writer that takes nothing.
-#[derive(Drop)]
-struct Nothing;
+// Reads a source in memory, which gives two bytes a call, to its end or past a limit; which call fails.
+fn tell_within(alloc: Global, limit: &str, failing: &str, out: &mut Vec<u8>) -> Result<(), Fail> {
+    let mut source = source(alloc, 2, number(failing))?;
+    let mut into = Vec::new(alloc);
+    let load = read_within(&mut source, &mut into, u64::from(number(limit)));
+    drop(source);
+    let told = push_load(load, into.as_slice(), out);
+    drop(into);
+    told
+}
 
-impl Write for Nothing {
-    fn write(&mut self, _buf: &[u8]) -> io::Result<usize> {
-        Ok(0)
-    }
+// Writes `abcde` and then nothing to a sink in memory: its room, how many bytes a call takes, and which call fails.
+fn tell_mem_sink(alloc: Global, room: &str, more: &str, out: &mut Vec<u8>) -> Result<(), Fail> {
+    let (step, failing) = more.split_once(' ').unwrap_or((more, ""));
+    let failing = [u64::from(number(failing))].to_vec(alloc)?;
+    let mut sink = MemSink::new(
+        alloc,
+        number(room) as usize,
+        number(step).max(1) as usize,
+        failing,
+    )?;
+    let told = tell_written(&mut sink, out);
+    drop(sink);
+    told
+}
 
-    fn flush(&mut self) -> io::Result<()> {
-        Ok(())
+// The same to a sink that is lent.
+fn tell_written(sink: &mut MemSink, out: &mut Vec<u8>) -> Result<(), Fail> {
+    push_write(sink, b"abcde", out)?;
+    push_bytes(sink.written(), out)?;
+    push_write(sink, b"", out)
+}
+
+// Writes a piece, and tells whether all of it was written.
+pub fn push_write<S: Sink>(sink: &mut S, piece: &[u8], out: &mut Vec<u8>) -> Result<(), Fail> {
+    match write_all(sink, piece) {
+        Ok(()) => push(out, "done"),
+        Err(Failed) => push(out, "failed"),
     }
 }
 
-#[test]
-fn writes_to_an_output(rt: HostRuntime) -> Result<(), Fail> {
-    let (mut reader, writer) = io::pipe(&rt)?;
-    let mut output = HostOutput::new(writer);
-    assert_eq!(rt; write_all(&mut output, b"abc"), Ok(()));
-    let mut buf = [b'.'; 4];
-    assert_eq!(rt; reader.read(&mut buf)?, 3);
-    assert_eq!(rt; buf, *b"abc.");
-    drop(reader);
-    assert_eq!(rt; write_all(&mut output, b"abc"), Err(Failed));
-    Ok(())
+// Writes words to a sink in memory that takes all; how many bytes it keeps.
+fn tell_sure_sink(alloc: Global, room: &str, words: &str, out: &mut Vec<u8>) -> Result<(), Fail> {
+    let mut sink = SureSink::new(alloc, number(room) as usize)?;
+    let told = tell_kept(&mut sink, words, out);
+    drop(sink);
+    told
 }
 
-#[test]
-fn fails_where_an_output_takes_nothing(rt: HostRuntime) -> Result<(), Fail> {
-    let mut full = HostOutput::new(fs::create(&rt, "/dev/full")?);
-    assert_eq!(rt; write_all(&mut full, b"abc"), Err(Failed));
-    let mut nothing = HostOutput::new(Nothing);
-    assert_eq!(rt; nothing.write(b""), Ok(0));
-    assert_eq!(rt; write_all(&mut nothing, b"abc"), Err(Failed));
+// The same to a sink that is lent.
+fn tell_kept(sink: &mut SureSink, words: &str, out: &mut Vec<u8>) -> Result<(), Fail> {
+    for word in words.split(' ') {
+        push_write(sink, word.as_bytes(), out)?;
+        push_bytes(sink.written(), out)?;
+    }
     Ok(())
 }

@@ -1,3 +1,5 @@
+//! A product of a variable and the constant.
+
 ghost use Rattle.std.specs.Prelude.{◌≡◌, length, true, IfOk};
 ghost use Rattle.cb_model.specs.Values.{in_scope};
 ghost use Rattle.cb_elim.specs.Store.{IsStore};
@@ -10,7 +12,6 @@ use cb_elim::{Slot, Store};
 use cb_model::Expr;
 use sqlite_items::Items;
 use std::alloc::{AllocError, Global};
-use std::test::Fail;
 
 // The variable times the constant.
 fn product(alloc: Global) -> Result<Expr, AllocError>
@@ -130,22 +131,25 @@ fn try_with(alloc: Global, product: &Expr, what: Try) -> Result<bool, Stop>
     holds
 }
 
-// Tries all three.
-fn try_all(alloc: Global, product: &Expr) -> Result<bool, Stop>
-    requires { in_scope 1 1 product.now ≡ true }
-{
-    let constant = try_with(alloc, product, Try::IsTheConstant)?;
-    let refused = try_with(alloc, product, Try::IsRefused)?;
-    let held = try_with(alloc, product, Try::IsHeld)?;
-    Ok(constant && refused && held)
+// Tries it with the product of the variable and the constant.
+fn with_product(alloc: Global, what: Try) -> Result<bool, Stop> {
+    let Ok(times) = product(alloc) else {
+        return Err(Stop::Memory);
+    };
+    let holds = try_with(alloc, &times, what);
+    drop(times);
+    holds
 }
 
-#[test]
-fn a_product_is_the_constant_is_refused_and_is_held(rt: HostRuntime) -> Result<(), Fail> {
-    let times = product(rt.alloc())?;
-    let all = try_all(rt.alloc(), &times)?;
-    assert!(rt; all);
-    Ok(())
+/// Tries one thing: whether the product can be the constant, is refused as 1, or is held in a slot; or what is known of a
+/// variable and of a constant.
+pub(crate) fn tried(alloc: Global, what: &str) -> Result<bool, Stop> {
+    match what {
+        "is_the_constant" => with_product(alloc, Try::IsTheConstant),
+        "is_refused" => with_product(alloc, Try::IsRefused),
+        "is_held" => with_product(alloc, Try::IsHeld),
+        _ => try_known(alloc),
+    }
 }
 
 // A variable is known once it is the constant; neither is one bit.
@@ -174,11 +178,4 @@ fn try_known(alloc: Global) -> Result<bool, Stop> {
     let known = are_known(&mut store);
     end(store);
     known
-}
-
-#[test]
-fn knows_constants(rt: HostRuntime) -> Result<(), Fail> {
-    let known = try_known(rt.alloc())?;
-    assert!(rt; known);
-    Ok(())
 }

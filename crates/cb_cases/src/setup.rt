@@ -69,3 +69,13 @@ pub(crate) fn seen(alloc: Global, store: &Store, slots: usize) -> Result<Picture
         values,
     })
 }
+
+// How a trial ended, in a word.
+pub(crate) fn said(found: Result<bool, Stop>) -> &'static str {
+    match found {
+        Ok(true) => " yes",
+        Ok(false) => " no",
+        Err(Stop::Nodes) => " full",
+        Err(Stop::Memory) => " memory",
+    }
+}

@@ -1,11 +1,13 @@
+//! Elimination of one level.
+
 ghost use Rattle.std.specs.Prelude.{IfOk};
 ghost use Rattle.cb_dd.specs.Diagram.{IsNode};
 
 use cb_dd::{Node, Stop};
 use cb_ops::Ops;
 use cb_solution::solution;
+use cb_trial::checked::end;
 use std::alloc::Global;
-use std::test::Fail;
 
 // The equation `x * a = a` leaves x, at level 1, free where a is 0, and has 1 for it where a is 1.
 fn is_solved(alloc: Global, ops: &mut Ops, a: Node, x: Node) -> Result<bool, Stop>
@@ -54,9 +56,6 @@ fn try_in(alloc: Global, ops: &mut Ops, what: Try) -> Result<bool, Stop> {
     }
 }
 
-// Lets a store of nodes go.
-fn end(_ops: Ops) {}
-
 // Tries it in a store of its own.
 fn holds(alloc: Global, what: Try) -> Result<bool, Stop> {
     let Ok(mut ops) = Ops::new(alloc, 100) else {
@@ -67,10 +66,10 @@ fn holds(alloc: Global, what: Try) -> Result<bool, Stop> {
     answer
 }
 
-#[test]
-fn solves_for_one_level_or_has_no_solution(rt: HostRuntime) -> Result<(), Fail> {
-    for what in [Try::IsSolved, Try::IsUnsolvable] {
-        assert!(rt; holds(rt.alloc(), what)?);
+/// Tries one thing in a store of its own.
+pub(crate) fn tried(alloc: Global, what: &str) -> Result<bool, Stop> {
+    match what {
+        "solved" => holds(alloc, Try::IsSolved),
+        _ => holds(alloc, Try::IsUnsolvable),
     }
-    Ok(())
 }

@@ -1,11 +1,15 @@
+//! Systems of equations.
+
 ghost use Rattle.std.specs.Prelude.{◌≡◌, ◌<◌, true, length, IfOk, IfSome};
 ghost use Rattle.cb_model.specs.Values.{in_scope};
 ghost use Rattle.cb_elim.specs.Store.{IsStore};
 
+use crate::setup::{end, said};
 use cb_boolean::solve;
 use cb_dd::{Node, Stop};
 use cb_elim::{Slot, Store};
 use cb_model::{Expr, Goal, Tree};
+use cb_trial::text::push;
 use std::alloc::Global;
 use std::test::Fail;
 
@@ -40,7 +44,11 @@ fn has_bit(found: &Option<Store>, slot: usize, level: u32) -> bool
 }
 
 // Lets what was found go.
-fn end(_found: Option<Store>) {}
+fn end_found(found: Option<Store>) {
+    if let Some(store) = found {
+        end(store);
+    }
+}
 
 // The system of the second expression: whether the variable is the constant, and whether there is a solution.
 fn try_both(alloc: Global, second: Expr) -> Result<(bool, bool), Stop>
@@ -49,7 +57,7 @@ fn try_both(alloc: Global, second: Expr) -> Result<(bool, bool), Stop>
     let found = solve_both(alloc, second)?;
     let constant = has_bit(&found, 0, 0);
     let some = found.is_some();
-    end(found);
+    end_found(found);
     Ok((constant, some))
 }
 
@@ -57,40 +65,36 @@ fn try_both(alloc: Global, second: Expr) -> Result<(bool, bool), Stop>
 fn try_none(alloc: Global) -> Result<bool, Stop> {
     let found = solve_none(alloc)?;
     let free = has_bit(&found, 0, 1) && has_bit(&found, 1, 2);
-    end(found);
+    end_found(found);
     Ok(free)
 }
 
-#[test]
-fn the_variable_is_the_constant(rt: HostRuntime) -> Result<(), Fail> {
-    let tried = try_both(rt.alloc(), Expr::Const(0))?;
-    assert!(rt; tried == (true, true));
-    Ok(())
+// Whether no variable can be drawn without a node.
+fn try_no_nodes(alloc: Global) -> Result<bool, Stop> {
+    let found = solve(alloc, 0, 1, &[], 0)?;
+    end_found(found);
+    Ok(true)
 }
 
-#[test]
-fn no_solution_where_the_constant_is_0(rt: HostRuntime) -> Result<(), Fail> {
-    let tried = try_both(rt.alloc(), Expr::One)?;
-    assert!(rt; tried == (false, false));
-    Ok(())
-}
-
-#[test]
-fn variables_without_equations_are_free(rt: HostRuntime) -> Result<(), Fail> {
-    let free = try_none(rt.alloc())?;
-    assert!(rt; free);
-    Ok(())
-}
-
-#[test]
-fn a_budget_of_no_nodes_stops(rt: HostRuntime) -> Result<(), Fail> {
-    let stopped = match solve(rt.alloc(), 0, 1, &[], 0) {
-        Ok(found) => {
-            end(found);
-            None
+// Appends whether the variable is the constant, and whether there is a solution.
+fn push_both(alloc: Global, second: Expr, out: &mut Vec<u8>) -> Result<(), Fail>
+    requires { in_scope 1 1 second ≡ true }
+{
+    match try_both(alloc, second) {
+        Ok((constant, some)) => {
+            push(out, said(Ok(constant)))?;
+            push(out, said(Ok(some)))
         }
-        Err(stop) => Some(stop),
-    };
-    assert_eq!(rt; stopped, Some(Stop::Nodes));
-    Ok(())
+        Err(stop) => push(out, said(Err(stop))),
+    }
+}
+
+/// Writes what comes of a system: that of a second expression, none, or one without nodes.
+pub(crate) fn tell(alloc: Global, what: &str, out: &mut Vec<u8>) -> Result<(), Fail> {
+    match what {
+        "const" => push_both(alloc, Expr::Const(0), out),
+        "one" => push_both(alloc, Expr::One, out),
+        "none" => push(out, said(try_none(alloc))),
+        _ => push(out, said(try_no_nodes(alloc))),
+    }
 }

@@ -1,3 +1,5 @@
+//! Equations that are taken back.
+
 ghost use Rattle.std.specs.Prelude.{◌≡◌, ◌<◌, length};
 ghost use Rattle.cb_elim.specs.Store.{IsStore};
 ghost use Rattle.cb_elim.specs.Moments.{IsMoment, KeepsMoments};
@@ -6,7 +8,6 @@ use crate::setup::{end, with_variables};
 use cb_dd::{Node, Stop};
 use cb_elim::{Slot, Store, StoreMark};
 use std::alloc::Global;
-use std::test::Fail;
 
 // Adds the equation of the values of two slots.
 fn equate(store: &mut Store, x: usize, y: usize) -> Result<bool, Stop>
@@ -106,8 +107,8 @@ fn are_undone(store: &mut Store, a: Node) -> Result<bool, Stop>
     Ok(solved && first && second && still && last)
 }
 
-// The same in a store of its own.
-fn try_undo(alloc: Global) -> Result<bool, Stop> {
+/// The same in a store of its own.
+pub(crate) fn try_undo(alloc: Global) -> Result<bool, Stop> {
     let mut store = with_variables(alloc, 100, 2)?;
     let undone = match store.constant(0) {
         Ok(a) => are_undone(&mut store, a),
@@ -115,11 +116,4 @@ fn try_undo(alloc: Global) -> Result<bool, Stop> {
     };
     end(store);
     undone
-}
-
-#[test]
-fn equations_are_undone_one_by_one(rt: HostRuntime) -> Result<(), Fail> {
-    let undone = try_undo(rt.alloc())?;
-    assert!(rt; undone);
-    Ok(())
 }

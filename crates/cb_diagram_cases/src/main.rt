@@ -1,11 +1,16 @@
 //! Diagrams, the operations on them, their products and their texts, and run-time terms, tried from outside. A line of
 //! `cases.txt` begins with how many nodes a store may hold; the words behind it work on a stack of its nodes, and what they
-//! tell is written as a line. The words of a line of `terms.txt` work on a stack of cells. `stdout` was worked out by hand.
+//! tell is written as a line. The words of a line of `terms.txt` work on a stack of cells,
+//! and those of a line of `states.txt` on one of cells over Boolean variables. `stdout` was worked out by hand.
 #![tactic(auto)]
 
 mod desk;
 mod making;
 mod shown;
+mod state_desk;
+mod state_making;
+mod state_seen;
+mod states;
 mod telling;
 mod term_desk;
 mod term_equal;
@@ -30,6 +35,10 @@ fn main(rt: HostRuntime) -> Result<(), Fail> {
     let cells = fs::read_to_string(&rt, "terms.txt")?;
     for line in cells.lines() {
         terms::tell(rt.alloc(), line, &mut out)?;
+    }
+    let states = fs::read_to_string(&rt, "states.txt")?;
+    for line in states.lines() {
+        states::tell(rt.alloc(), line, &mut out)?;
     }
     io::writer(&rt).write_all(&out)?;
     Ok(())

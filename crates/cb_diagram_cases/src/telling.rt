@@ -51,9 +51,9 @@ fn tell_parts(alloc: Global, ops: &Ops, node: Node, out: &mut Vec<u8>) -> Result
     }
 }
 
-// Appends the node's values under the eight assignments of the levels 0, 1 and 2, of which the first is all 0 and level 2
-// changes fastest.
-fn tell_table(ops: &Ops, node: Node, out: &mut Vec<u8>) -> Result<(), Fail> {
+/// Appends the node's values under the eight assignments of the levels 0, 1 and 2, of which the first is all 0 and level 2
+/// changes fastest.
+pub fn tell_table(ops: &Ops, node: Node, out: &mut Vec<u8>) -> Result<(), Fail> {
     push(out, " ")?;
     for row in 0..8u32 {
         let one = value(ops, node, [row / 4 == 1, row / 2 % 2 == 1, row % 2 == 1]);
