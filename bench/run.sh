@@ -1,7 +1,7 @@
 #!/bin/sh
 # Builds the proved program of crates/cb_bench and runs it: the outputs of adders in the order of their ports, eight
 # and nine queens, and multipliers. Where BuDDy is installed (libbdd-dev) it builds the same diagrams in the same run,
-# and the ratio of the times is printed. Each time is the best of three.
+# and the ratio of the times is printed. Each time is the best of three. Behind them come the circuits of circuits.sh.
 set -e
 here=$(cd "$(dirname "$0")" && pwd)
 (cd "$here/../crates/cb_bench" && rt run >/dev/null)
@@ -42,3 +42,6 @@ queens 9
 multiplier 10
 multiplier 11
 CASES
+
+# Everyday circuits, by the whole program.
+"$here/circuits.sh"
