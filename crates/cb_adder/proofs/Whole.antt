@@ -8,8 +8,7 @@ use Rattle.cb_model.specs.Loading as load
 use Rattle.cb_model.specs.Output.{Loaded, IsLoaded, VerifySays, module_named, spec_named}
 use Rattle.cb_model.specs.Commands.{Nodes}
 use Rattle.cb_model.specs.Facts.{Circuits}
-use Rattle.cb_laws.specs.Owed.{AdderHolds, AddersHold}
-use Rattle.cb_adder.specs.Adders.{HasAdder, LoadedAdders, NeverRefused, VerifiedAdders}
+use Rattle.cb_adder.specs.Adders.{AdderHolds, AddersHold, HasAdder, LoadedAdders, NeverRefused, VerifiedAdders}
 use Rattle.cb_adder.proofs.Modules.{adder_module, adder_spec, Adds}
 use Rattle.cb_adder.proofs.Clauses.{adder_clauses, adder_circuits}
 use Rattle.cb_adder.proofs.Row.{adder_adds}

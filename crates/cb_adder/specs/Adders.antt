@@ -1,4 +1,4 @@
--- Whatever the generated text is loaded as, its adder is right; the text is never refused, and `verify` says so of it.
+-- The generated text is accepted and its adder is right, whatever the text is loaded as; it is never refused, and `verify` says so of it.
 use Rattle.std.specs.Prelude.{◌≡◌, ℕ, ◌+◌, ◌*◌, ◌≤◌, ◌⊎◌, List, [], ◌∷◌, length, Some, codes, sum_by}
 use Rattle.cb_model.specs.declared.Outcome.{Outcome}
 use Rattle.cb_model.specs.declared.Outcome.TheVariants.{Done, Stopped}
@@ -10,6 +10,25 @@ use Rattle.cb_model.specs.Commands.{Nodes}
 use Rattle.cb_model.specs.Refusals.{Refused}
 use Rattle.cb_model.specs.Room.{expr_size}
 use Rattle.cb_model.specs.Output.{Loaded, IsLoaded, FileRefused, module_named, spec_named, room_of, BelowNodes, VerifySays}
+
+-- the generated text is accepted, and its adder has these sizes and is right
+pub record AdderHolds (n : ℕ) : Type 0 where
+  pub l : Loaded
+  pub m : Module
+  pub s : Spec
+  pub loaded : IsLoaded (adder_text n) l
+  pub has_module : module_named l.circuits (codes "adder") ≡ Some m
+  pub has_spec : spec_named l.circuits (codes "adder") ≡ Some s
+  pub inputs : length m.inputs ≡ 2 * n + 1
+  pub outputs : length m.outputs ≡ n + 1
+  pub spec_inputs : length s.inputs ≡ length m.inputs
+  pub spec_exprs : length s.exprs ≡ length m.outputs
+  pub gates : length (flat_named l.circuits.flats (codes "adder")).gates ≡ 5 * n
+  pub agrees : Agrees (circuit_of (flat_named l.circuits.flats (codes "adder"))) (BySpec s.exprs)
+
+-- the same of each number that `make` takes
+abbrev pub AddersHold : Type 0
+AddersHold = (n : ℕ) → 1 ≤ n → n ≤ 64 → AdderHolds n
 
 -- the adder among these circuits has its inputs, outputs and gates, and agrees with its specification
 pub record HasAdder (n : ℕ) (c : Circuits) : Type 0 where
