@@ -96,7 +96,7 @@ step_determined p e s s₁ s₂ v₁ v₂ x y =
     (x.stack ∙ ap (λ l. l ++ s) es ∙ sym y.stack, x.gives ∙ ap event_of c ∙ sym y.gives)
 
 -- a stack that has come to an end has no step
-ends_no_step : (p : Program) (budget used : ℕ) (e : Entry) (s : List Entry) (end : End) (c : Change) → Ends p budget used (e ∷ s) end → Moves p e c → stop_of p budget used c ≡ None → ⊥
+pub ends_no_step : (p : Program) (budget used : ℕ) (e : Entry) (s : List Entry) (end : End) (c : Change) → Ends p budget used (e ∷ s) end → Moves p e c → stop_of p budget used c ≡ None → ⊥
 ends_no_step p budget used e s end c (stops {w = w} d m f) n g =
     let same : d ≡ c = moves_one p e d c m n in
     let h : stop_of p budget used c ≡ Some w = subst (λ k. stop_of p budget used k ≡ Some w) same f in

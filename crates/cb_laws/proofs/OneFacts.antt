@@ -15,7 +15,7 @@ use Rattle.cb_model.specs.Facts.{Circuits, FactRefusal, Twice, Pins, Driven, Cyc
 -- ---- forms
 
 -- how many arguments a name has, and else 0
-arguments : Form → ℕ
+pub arguments : Form → ℕ
 arguments (Name x fs) = count_of fs
 arguments _ = 0
 
@@ -24,7 +24,7 @@ apart-count Last k = refl
 apart-count (More f fs) k = ap suc (apart-count fs (apart f k).1)
 
 -- a name has the arguments that its form asks for
-sign-arguments : (a : Sign) (f : Form) → sign_is a f ≡ true → arguments (apart f 0).0 ≡ a.1
+pub sign-arguments : (a : Sign) (f : Form) → sign_is a f ≡ true → arguments (apart f 0).0 ≡ a.1
 unfolding arguments
 sign-arguments a (Name x fs) e = apart-count fs 0 ∙ sym (eqb-true a.1 (count_of fs) (and_parts _ (a.1 == count_of fs) e).1)
 sign-arguments a (Variable x) e = absurd (true≢false (sym e))
@@ -42,12 +42,12 @@ some-none e = true≢false (ap is_some e)
 none-some : {A : Type 0} {x : A} → None ≡ Some x → ⊥
 none-some e = some-none (sym e)
 
-module-arguments : (g : Form) (m : Module) → module_of g ≡ Some m → arguments g ≡ 4
+pub module-arguments : (g : Form) (m : Module) → module_of g ≡ Some m → arguments g ≡ 4
 unfolding arguments
 module-arguments (Name x (More (Name name Last) (More ins (More outs (More is Last))))) m e = refl
 module-arguments g m e = absurd (none-some e)
 
-spec-arguments : (g : Form) (s : Spec) → spec_of g ≡ Some s → arguments g ≡ 3
+pub spec-arguments : (g : Form) (s : Spec) → spec_of g ≡ Some s → arguments g ≡ 3
 unfolding arguments
 spec-arguments (Name x (More (Name name Last) (More ins (More exprs Last)))) s e = refl
 spec-arguments g s e = absurd (none-some e)

@@ -96,7 +96,7 @@ module _ (p : Program) where
 abbrev some_valuation : Valuation
 some_valuation = record { bits = λ n. false; words = λ n. []; terms = λ n. Int (pos 0) }
 
-without_items : (w : World) → Solvable w []
+pub without_items : (w : World) → Solvable w []
 without_items w a h = record { b = some_valuation; sorted = λ n. search arith; sat = tt }
 
 pub printed_are_solvable : PrintedAreSolvable

@@ -1,6 +1,6 @@
 -- Solvable equations have a shape for all terms: the forms of the terms in all solutions, with their formulas as leaves and
 -- their unknown parts as open places.
-use Rattle.std.proofs.Common.{◌≡◌, inl, inr, ℕ, zero, suc, ◌+◌, ◌<◌, Bool, true, false, ◌||◌, if◌then◌else◌, List, [], ◌∷◌, ◌++◌, map, length, get_or, refl, sym, ◌∙◌, ap, subst, arith, pos, length-append, append_assoc, append-nil}
+use Rattle.std.proofs.Common.{◌≡◌, inl, inr, ℕ, zero, suc, ◌+◌, ◌<◌, ◌≤◌, Bool, true, false, ◌||◌, if◌then◌else◌, List, [], ◌∷◌, ◌++◌, map, length, get_or, refl, sym, ◌∙◌, ap, subst, arith, pos, length-append, append_assoc, append-nil}
 use Rattle.std.proofs.lemmas.List.{length-map}
 use Rattle.std.specs.Prelude.{Option, Some, None, slice_get, flat_map}
 use Rattle.std.specs.List.{list_all}
@@ -14,7 +14,7 @@ use Rattle.cb_model.specs.declared.Tree.TheFolds.{fold-roll-Tree}
 use Rattle.cb_model.specs.Bits.{Bits, AgreeBelow, Each, bits_of, first_bits, numbers, numbers_from}
 use Rattle.cb_model.specs.Values.{Ground, Bit, Word, Int, Name, Grounds, Last, More, grounds, World, Valuation, IsValuation, tail_of, tree_value, tree_in_scope}
 use Rattle.cb_model.specs.Equations.{Item, SolvedAt, Solvable, Meets}
-use Rattle.cb_model.specs.Answers.{IsShape, InOrder, is_open, is_open_step, is_leaf, leaves, opens, values, with_opens}
+use Rattle.cb_model.specs.Answers.{BitsFrom, Gives, IsShape, InOrder, is_open, is_open_step, is_leaf, leaves, opens, values, with_opens}
 use Rattle.cb_laws.specs.Laws.{InScope, HasShape}
 use Rattle.cb_laws.proofs.Tables.{zero_fits}
 use Rattle.cb_laws.proofs.Decided.{and_true, both_true, agree_first, trimmed}
@@ -22,8 +22,9 @@ use Rattle.cb_laws.proofs.DependsTrees.{agree_self, tree_depends, items_depend}
 use Rattle.cb_laws.proofs.Bounds.{items_wider}
 use Rattle.cb_laws.proofs.Codes.{BusEnd, ArgumentsEnd, Number, Called, Unknown, ABus, ATerm, Code, Truth, Marked, Join, Form, Open, Formula, Fixed, Both, Truths, Choice, value, same, same_is, same_self, filled, IsBusCode, CodeFits, sort_of, AreFit}
 use Rattle.cb_laws.proofs.Coded.{coded, all_coded, all_coded-inj, bus_coded, bus_decoded, bus_forth, bus_is, decoded, is_coded, coded_fits, arguments_form, tree_form}
-use Rattle.cb_laws.proofs.Unified.{Solved, first_of, second_of, truth_in}
-use Rattle.cb_laws.proofs.Solutions.{item_pairs, row_truths, row_valuation, row_meets, row_value, RowOf, row_of}
+use Rattle.cb_laws.proofs.Search.{Decision, Found, both, equal_to, same_bit, search_bits}
+use Rattle.cb_laws.proofs.Unified.{Solved, plain, plain_fit, first_of, second_of, truth_in}
+use Rattle.cb_laws.proofs.Solutions.{item_pairs, outputs_in, Allows, allows, row_truths, row_valuation, row_meets, row_value, RowOf, row_of}
 use Rattle.cb_laws.proofs.Matching.{unknowns_in, each_front, each_behind, each_of}
 use Rattle.cb_laws.proofs.ReadyGoals.{trees_bound, trees_wider, solved}
 use Rattle.cb_laws.proofs.Shapes.{open-leaf, open-bus, open-term, open-node, leaf-var}
@@ -566,6 +567,33 @@ in_order seen (u ∷ us) = step (has seen u) refl (in_order seen us) (in_order (
           subst (λ l. InOrder l (map (λ x. (sort_of x, index (ordered (seen ++ u ∷ []) us) x)) us)) (sym (map_append seen (u ∷ []))) k,
         )
 
+-- ---- bits at the front
+
+-- the first list begins the second
+abbrev BeginBits : List Bool → List Bool → Type 0
+BeginBits [] xs = Unit {0}
+BeginBits (y ∷ ys) [] = ⊥
+BeginBits (y ∷ ys) (x ∷ xs) = (y ≡ x) × BeginBits ys xs
+
+begin_decided : (ys xs : List Bool) → Decision (BeginBits ys xs)
+begin_decided [] xs = inl tt
+begin_decided (y ∷ ys) [] = inr (λ h. h)
+begin_decided (y ∷ ys) (x ∷ xs) = both (same_bit y x) (begin_decided ys xs)
+
+begin_bits : (bits : Bits) (f : Truths) (n : ℕ) (es : List Expr) (ys : List Bool) → length ys ≤ length es → HaveBits bits f n es → BitsFrom n bits ys → BeginBits ys (map f es)
+begin_bits bits f n es [] l h k = tt
+begin_bits bits f n [] (y ∷ ys) l h k = absurd (omega (arith, l))
+begin_bits bits f n (e ∷ es) (y ∷ ys) l h k = (k.0 ∙ h.0, begin_bits bits f (suc n) es ys (omega (arith, l)) h.1 k.1)
+
+bits_begin : (ys xs : List Bool) → BeginBits ys xs → BitsFrom 0 (bits_of xs) ys
+bits_begin ys xs h = from 0 ys xs xs (λ i. ap (bits_of xs) (omega arith)) h
+  where
+    from : (n : ℕ) (ys xs zs : List Bool) → ((i : ℕ) → bits_of zs (n + i) ≡ get_or xs i false) → BeginBits ys xs → BitsFrom n (bits_of zs) ys
+    from n [] xs zs g h = tt
+    from n (y ∷ ys) [] zs g h = absurd h
+    from n (y ∷ ys) (x ∷ xs) zs g h =
+        (h.0 ∙ sym (g 0) ∙ ap (bits_of zs) (omega arith), from (suc n) ys xs zs (λ i. ap (bits_of zs) (omega arith) ∙ g (suc i)) h.1)
+
 -- ---- the law
 
 grounds-inj : (xs ys : List Ground) → grounds xs ≡ grounds ys → xs ≡ ys
@@ -752,5 +780,61 @@ module _ (w : World) (c v : ℕ) (es : List Item) (scope : InScope c v es) (solv
   is_shape : IsShape w es terms shape
   is_shape = record { only_leaves = shape_opened plains; leaf_order = leaf_numbers; open_order = open_numbers; covers = covered; free = freed }
 
+  -- ---- whether a solution gives some bits to the first leaves
+
+  leaf_count : length (flat_map leaves shape) ≡ count form
+  leaf_count = ap length (shape_leaves plains ∙ forms_leaves number 0 form are_forms) ∙ numbers_length 0 (count form)
+    where
+      numbers_length : (at k : ℕ) → length (numbers_from at k) ≡ k
+      numbers_length at zero = refl
+      numbers_length at (suc k) = ap suc (numbers_length (suc at) k)
+
+  module _ (a : Bits) (bits : List Bool) (short : length bits ≤ length (flat_map leaves shape)) where
+    -- a row of a solution whose formulas begin with the bits
+    abbrev RowGives : List Bool → Type 0
+    RowGives r = Allows w n es wide s (first_bits n a) r × BeginBits bits (map (truths (first_bits n a) r) (formulas form))
+
+    gives_row : Gives w es terms shape a bits → Found (n + outputs_in es) RowGives
+    gives_row g =
+        let r = row a g.b g.meets in
+        let f : Truths = truths (first_bits n a) r.row in
+        let old : all_coded (plain_values g.o plains) ≡ value f r.unknowns form =
+        ap all_coded (sym (shape_values a g.o) ∙ ap grounds (sym g.fills)) ∙ forms_are a g.b f r.unknowns terms terms_wide r.values in
+        let have : HaveBits g.o.bits f 0 (formulas form) = forms_bits number g.o f r.unknowns 0 form are_forms old in
+        let fits : length bits ≤ length (formulas form) = let e = leaf_count in let l = short in omega (arith, e, l) in
+        (r.row, (r.number, (r.allowed, begin_bits g.o.bits f 0 (formulas form) bits fits have g.bits_are)))
+
+    row_gives : (r : List Bool) → RowGives r → Gives w es terms shape a bits
+    row_gives r h =
+        let ra : List Bool = first_bits n a in
+        let f : Truths = truths ra r in
+        let k : Choice = plain w.arguments in
+        let fit : AreFit w.arguments k = plain_fit w.arguments in
+        let b' : Valuation = row_valuation w n es wide s ra r k in
+        let near : AgreeBelow n (trimmed n a) a = agree_first n a in
+        let meets' : Meets w es (trimmed n a) b' = row_meets w n es wide s ra r k h.0 fit in
+        let meets : Meets w es a b' = record { admitted = tt; sorted = meets'.sorted; sat = items_depend n n (trimmed n a) a b' b' near (agree_self n b') es wide meets'.sat } in
+        let o : Valuation = filling f k fit in
+        let terms_are : all_coded (grounds (values a b' terms)) ≡ value f k form =
+        forms_are a b' f k terms terms_wide (λ x i. ap coded (sym (tree_depends n n (trimmed n a) a b' b' near (agree_self n b') x i)) ∙ row_value w n es wide s ra r k fit x) in
+        record {
+          b = b';
+          o = o;
+          meets = meets;
+          fills = grounds-inj (values a b' terms) (values a o shape)
+              (all_coded-inj (grounds (values a b' terms)) (grounds (values a o shape)) (terms_are ∙ sym (filled_value f k fit) ∙ ap all_coded (sym (shape_values a o))));
+          bits_are = bits_begin bits (map f (formulas form)) h.1;
+        }
+
+    gives_decided : Decision (Gives w es terms shape a bits)
+    gives_decided = equal_to ((λ g. gives_row g), λ h. row_gives h.0 h.1.1)
+        (search_bits (n + outputs_in es) RowGives (λ r. both (allows w n es wide s (first_bits n a) r) (begin_decided bits (map (truths (first_bits n a) r) (formulas form)))))
+
 pub has_shape : HasShape
 has_shape w c v es terms scope solvable = (shape w c v es scope solvable terms, is_shape w c v es scope solvable terms)
+
+-- and whether a solution gives some bits to its first leaves is decided at each assignment
+pub shape_decided : (w : World) (c v : ℕ) (es : List Item) (terms : List Tree) → InScope c v es → Solvable w es →
+    (shape : List Tree) × IsShape w es terms shape × ((a : Bits) (bits : List Bool) → length bits ≤ length (flat_map leaves shape) → Decision (Gives w es terms shape a bits))
+shape_decided w c v es terms scope solvable =
+    (shape w c v es scope solvable terms, is_shape w c v es scope solvable terms, gives_decided w c v es scope solvable terms)

@@ -1,0 +1,14 @@
+pub mod Runs
+pub mod Lines
+pub mod Says
+pub mod Closures
+pub mod Marks
+pub mod Bodies
+pub mod FactsExist
+pub mod Circuits
+pub mod Runnings
+pub mod Texts
+pub mod Files
+pub mod Verdicts
+pub mod Outputs
+pub mod Extends
