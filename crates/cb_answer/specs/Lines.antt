@@ -9,7 +9,7 @@ use Rattle.cb_boole.specs.Elimination.{Function}
 use Rattle.cb_boole.specs.Stages.{AreOwn}
 use Rattle.cb_project.specs.Leaves.{functions_of, AllNodes}
 use Rattle.cb_show.specs.Levels.{spread}
-use Rattle.cb_laws.proofs.OpenTrees.{Plain, Plains, ANode, Nil, Cons, all_leaves}
+use Rattle.cb_laws.proofs.OpenTrees.{Plains, all_leaves}
 use Rattle.cb_shape.specs.declared.Printed.{Printed}
 use Rattle.cb_shape.specs.Shapes.{shape_of}
 use Rattle.cb_shape.specs.Terms.{how_many}
@@ -43,12 +43,11 @@ form_leaf c names first gens = leaf_text c names (spread_all c first gens)
 abbrev pub form_text : ℕ → Names → ℕ → List Function → List Token → Text
 form_text c names first gens ts = line_start names.printed ++ tokens_text names (form_leaf c names first gens) ts
 
--- the piece has a number that is there: of so many terms, leaves and names
-abbrev pub IsNumbered : ℕ → ℕ → ℕ → Token → Type 0
-IsNumbered terms leaves names (token.Term i) = i < terms
-IsNumbered terms leaves names (token.Leaf j) = j < leaves
-IsNumbered terms leaves names (token.Name n) = n < names
-IsNumbered terms leaves names _ = Unit {0}
+-- the piece has a number that is there: of so many terms and leaves
+abbrev pub IsNumbered : ℕ → ℕ → Token → Type 0
+IsNumbered terms leaves (token.Term i) = i < terms
+IsNumbered terms leaves (token.Leaf j) = j < leaves
+IsNumbered terms leaves _ = Unit {0}
 
 -- the nodes of a parametric form, each over the constants and the parameters up to its own
 pub record IsForm (ts : List Triple) (c first : ℕ) (ns : List Node) : Type 0 where
@@ -56,22 +55,11 @@ pub record IsForm (ts : List Triple) (c first : ℕ) (ns : List Node) : Type 0 w
   pub order : c ≤ first
   pub own : AreOwn c first 0 (functions_of ts ns)
 
--- each name has a number below this
-abbrev mutual
-  pub HasNames : ℕ → Plain → Type 0
-  HasNames n (ANode m ps) = (m < n) × HaveNames n ps
-  HasNames n _ = Unit {0}
-
-  pub HaveNames : ℕ → Plains → Type 0
-  HaveNames n Nil = Unit {0}
-  HaveNames n (Cons p ps) = HasNames n p × HaveNames n ps
-
--- these are the terms of so many items, leaves and names
-pub record AreTold (items leaves names : ℕ) (ps : Plains) (s : Printed) : Type 0 where
+-- these are the terms of so many items and leaves
+pub record AreTold (items leaves : ℕ) (ps : Plains) (s : Printed) : Type 0 where
   pub shown : IsShown ps s
   pub items_are : how_many ps ≡ items
   pub leaves_are : length (all_leaves ps) ≡ leaves
-  pub have_names : HaveNames names ps
 
 -- the line of the shape of terms, with a parametric form for its leaves
 abbrev pub form_line : ℕ → Names → Plains → ℕ → List Function → Text

@@ -2,9 +2,11 @@
 #![tactic(auto)]
 
 mod pieces;
+mod telling;
 
 use cb_heap::Ref;
 pub use pieces::{Told, line};
+pub use telling::answer;
 
 /// What a line tells.
 #[derive(Clone, Copy, Drop)]

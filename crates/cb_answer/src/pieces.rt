@@ -1,6 +1,6 @@
 //! The text of an answer from the pieces of its terms.
 
-ghost use Rattle.std.specs.Prelude.{◌≡◌, ◌<◌, ◌≤◌, ◌∷◌, ◌++◌, [], length, get_or, codes, IfOk, OnOk};
+ghost use Rattle.std.specs.Prelude.{◌≡◌, ◌<◌, ◌∷◌, ◌++◌, [], length, get_or, codes, IfOk, OnOk};
 ghost use Rattle.std.specs.Fmt.{signed_decimal};
 ghost use Rattle.cb_model.specs.Bits.{Each};
 ghost use Rattle.cb_model.specs.Line.{open_text};
@@ -80,7 +80,6 @@ fn push_leaf<N: Names>(
     number: usize,
 ) -> Result<(), AllocError>
     requires form { IsForm told.now.ops.now.triples told.now.constants told.now.form.now.first told.now.form.now.nodes }
-    requires named { told.now.constants ≤ length (N.constants told.now.names.now) }
     requires there { number < length told.now.form.now.nodes }
     ensures { OnOk result (line.new.items ≡ line.old.items
         ++ form_leaf told.now.constants (line_names (N.names told.now.names.now) (N.constants told.now.names.now) told.now.items.now) told.now.form.now.first (functions_of told.now.ops.now.triples told.now.form.now.nodes) number) }
@@ -105,8 +104,7 @@ fn push_token<N: Names>(
     token: Token,
 ) -> Result<(), AllocError>
     requires form { IsForm told.now.ops.now.triples told.now.constants told.now.form.now.first told.now.form.now.nodes }
-    requires named { told.now.constants ≤ length (N.constants told.now.names.now) }
-    requires numbered { IsNumbered (length told.now.items.now) (length told.now.form.now.nodes) (length (N.names told.now.names.now)) token }
+    requires numbered { IsNumbered (length told.now.items.now) (length told.now.form.now.nodes) token }
     ensures { OnOk result (line.new.items ≡ line.old.items
         ++ token_text (line_names (N.names told.now.names.now) (N.constants told.now.names.now) told.now.items.now) (form_leaf told.now.constants (line_names (N.names told.now.names.now) (N.constants told.now.names.now) told.now.items.now) told.now.form.now.first (functions_of told.now.ops.now.triples told.now.form.now.nodes)) token) }
 {
@@ -143,8 +141,7 @@ fn text_of<N: Names>(
     tokens: &[Token],
 ) -> Result<Vec<u8>, AllocError>
     requires form { IsForm told.now.ops.now.triples told.now.constants told.now.form.now.first told.now.form.now.nodes }
-    requires named { told.now.constants ≤ length (N.constants told.now.names.now) }
-    requires numbered { Each (IsNumbered (length told.now.items.now) (length told.now.form.now.nodes) (length (N.names told.now.names.now))) tokens.now }
+    requires numbered { Each (IsNumbered (length told.now.items.now) (length told.now.form.now.nodes)) tokens.now }
     ensures { IfOk result (λ t. t.items
         ≡ form_text told.now.constants (line_names (N.names told.now.names.now) (N.constants told.now.names.now) told.now.items.now) told.now.form.now.first (functions_of told.now.ops.now.triples told.now.form.now.nodes) tokens.now) }
 {
@@ -162,9 +159,8 @@ pub fn line<N: Names>(
     printed: &Printed,
 ) -> Result<Vec<u8>, AllocError>
     requires form { IsForm told.now.ops.now.triples told.now.constants told.now.form.now.first told.now.form.now.nodes }
-    requires named { told.now.constants ≤ length (N.constants told.now.names.now) }
-    requires terms { (ps : Plains) × AreTold (length told.now.items.now) (length told.now.form.now.nodes) (length (N.names told.now.names.now)) ps printed.now }
-    ensures { IfOk result (λ t. (ps : Plains) → AreTold (length told.now.items.now) (length told.now.form.now.nodes) (length (N.names told.now.names.now)) ps printed.now → t.items
+    requires terms { (ps : Plains) × AreTold (length told.now.items.now) (length told.now.form.now.nodes) ps printed.now }
+    ensures { IfOk result (λ t. (ps : Plains) → AreTold (length told.now.items.now) (length told.now.form.now.nodes) ps printed.now → t.items
         ≡ form_line told.now.constants (line_names (N.names told.now.names.now) (N.constants told.now.names.now) told.now.items.now) ps told.now.form.now.first (functions_of told.now.ops.now.triples told.now.form.now.nodes)) }
 {
     let mut text = text_of(alloc, told, &printed.tokens)?;

@@ -1,6 +1,6 @@
 //! Texts of names, numbers and values.
 
-ghost use Rattle.std.specs.Prelude.{[], ◌∷◌, codes};
+ghost use Rattle.std.specs.Prelude.{◌≡◌, [], ◌∷◌, codes, get_or};
 
 use cb_dd::Node;
 use cb_host::MemSink;
@@ -18,12 +18,22 @@ impl Names for OnlyA {
 
     ghost constants = { λ _. codes "a" ∷ [] };
 
-    fn name(&self, _n: u32) -> &[u8] {
-        b"a"
+    fn name(&self, n: u32) -> &[u8] {
+        only_first(n)
     }
 
-    fn constant(&self, _k: u32) -> &[u8] {
-        b"a"
+    fn constant(&self, k: u32) -> &[u8] {
+        only_first(k)
+    }
+}
+
+// The name `a` for number 0.
+fn only_first(number: u32) -> &'static [u8]
+    ensures { result.now ≡ get_or (codes "a" ∷ []) number [] }
+{
+    match number {
+        0 => b"a",
+        _ => b"",
     }
 }
 

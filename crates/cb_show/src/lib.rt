@@ -1,7 +1,7 @@
 //! The text of answers: names, numbers and the values of diagrams.
 #![tactic(auto)]
 
-ghost use Rattle.std.specs.Prelude.{◌≡◌, ℕ, ◌<◌, List, [], length, get_or};
+ghost use Rattle.std.specs.Prelude.{◌≡◌, ℕ, List, [], get_or};
 
 use cb_dd::Stop;
 use cb_host::Failed;
@@ -12,7 +12,7 @@ pub use values::{MOST_PRODUCTS, push_value, value};
 mod plain;
 mod values;
 
-/// Where the names and the constants of a text are looked up by their numbers.
+/// Where the names and the constants of a text are looked up by their numbers. A number past the last has no bytes.
 pub trait Names {
     // the names by number
     ghost names: { Self → List (List ℕ) };
@@ -20,14 +20,12 @@ pub trait Names {
     // the constants by number, in declared order
     ghost constants: { Self → List (List ℕ) };
 
-    /// The bytes of the name with this number, which is one that has a name.
+    /// The bytes of the name with this number; none past the last name.
     fn name(&self, n: u32) -> &[u8]
-        requires { n < length (names self.now) }
         ensures { result.now ≡ get_or (names self.now) n [] };
 
-    /// The bytes of the constant with this number, which is one that has a constant.
+    /// The bytes of the constant with this number; none past the last constant.
     fn constant(&self, k: u32) -> &[u8]
-        requires { k < length (constants self.now) }
         ensures { result.now ≡ get_or (constants self.now) k [] };
 }
 

@@ -39,7 +39,6 @@ fn push_level<N: Names>(
 ) -> Result<(), AllocError>
     requires level { IsNamed naming.now.constants naming.now.first level }
     requires order { naming.now.constants ≤ naming.now.first }
-    requires named { naming.now.constants ≤ length (N.constants naming.now.names.now) }
     ensures { OnOk result (line.new.items ≡ line.old.items ++ level_name naming.now.constants naming.now.first (N.constants naming.now.names.now) level) }
 {
     if level < naming.constants {
@@ -64,7 +63,6 @@ fn push_literal<N: Names>(
 ) -> Result<(), AllocError>
     requires level { IsNamed naming.now.constants naming.now.first level }
     requires order { naming.now.constants ≤ naming.now.first }
-    requires named { naming.now.constants ≤ length (N.constants naming.now.names.now) }
     ensures { OnOk result (line.new.items ≡ line.old.items ++ literal_text (level_name naming.now.constants naming.now.first (N.constants naming.now.names.now)) (level, bit)) }
 {
     if !bit {
@@ -81,7 +79,6 @@ fn push_product<N: Names>(
 ) -> Result<(), AllocError>
     requires levels { AreNamed naming.now.constants naming.now.first product.now }
     requires order { naming.now.constants ≤ naming.now.first }
-    requires named { naming.now.constants ≤ length (N.constants naming.now.names.now) }
     ensures { OnOk result (line.new.items ≡ line.old.items ++ product_text (level_name naming.now.constants naming.now.first (N.constants naming.now.names.now)) product.now) }
 {
     let Some((head, rest)) = product.split_first() else {
@@ -103,7 +100,6 @@ fn push_products<N: Names>(
 ) -> Result<(), AllocError>
     requires levels { Each (AreNamed naming.now.constants naming.now.first) (products.old.product ∷ products.old.to_come) }
     requires order { naming.now.constants ≤ naming.now.first }
-    requires named { naming.now.constants ≤ length (N.constants naming.now.names.now) }
     ensures { OnOk result (line.new.items ≡ line.old.items
         ++ joined (codes " + ") (map (product_text (level_name naming.now.constants naming.now.first (N.constants naming.now.names.now))) (products.old.product ∷ products.old.to_come))) }
 {
@@ -129,7 +125,6 @@ pub fn push_value<N: Names>(
 ) -> Result<(), AllocError>
     requires node { IsNode ops.now.triples f.0 }
     requires order { constants ≤ first }
-    requires named { constants ≤ length (N.constants names.now) }
     requires scope { (m : ℕ) × DependsOn ops.now.triples f.0 (levels constants first m) }
     ensures text { OnOk result ((m : ℕ) → DependsOn ops.now.triples f.0 (levels constants first m)
         → line.new.items ≡ line.old.items ++ node_text ops.now.triples f.0 constants first (N.constants names.now) m) }
@@ -168,7 +163,6 @@ pub fn value<S: Sink, N: Names>(
 ) -> Result<(), ShowError>
     requires node { IsNode ops.now.triples f.0 }
     requires order { constants ≤ first }
-    requires named { constants ≤ length (N.constants names.now) }
     requires scope { (m : ℕ) × DependsOn ops.now.triples f.0 (levels constants first m) }
     ensures text { OnOk result ((m : ℕ) → DependsOn ops.now.triples f.0 (levels constants first m)
         → Wrote (S.written out.old) (S.written out.new) (node_text ops.now.triples f.0 constants first (N.constants names.now) m)) }

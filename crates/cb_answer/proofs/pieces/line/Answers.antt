@@ -10,15 +10,14 @@ text_of-requires-clause-numbered g c =
     let t = c.args.told.now in
     let k = length t.items.now in
     let l = length t.form.now.nodes in
-    let n = length (g.N.Names.names t.names.now) in
-    subst (λ ts. Each (IsNumbered k l n) ts) (sym c.deref.ensures.value) (told-numbered k l n c.requires.terms.0 c.args.printed.now c.requires.terms.1)
+    subst (λ ts. Each (IsNumbered k l) ts) (sym c.deref.ensures.value) (told-numbered k l c.requires.terms.0 c.args.printed.now c.requires.terms.1)
 
 pub returns : goal.returns
 returns g c = λ ps told.
     let t = c.args.told.now in
     let gens = functions_of t.ops.now.triples t.form.now.nodes in
     let names = line_names (g.N.Names.names t.names.now) (g.N.Names.constants t.names.now) t.items.now in
-    told-line t.constants (g.N.Names.names t.names.now) (g.N.Names.constants t.names.now) t.items.now (length t.form.now.nodes) (length (g.N.Names.names t.names.now)) t.form.now.first gens ps c.args.printed.now
+    told-line t.constants (g.N.Names.names t.names.now) (g.N.Names.constants t.names.now) t.items.now (length t.form.now.nodes) t.form.now.first gens ps c.args.printed.now
     c.in_ok-text.text.items c.push.new.self.items told
     (c.in_ok-text.ensures ∙ ap (λ ts. form_text t.constants names t.form.now.first gens ts) c.deref.ensures.value)
     c.in_ok-push.ensures.items
