@@ -1,5 +1,5 @@
--- What an outcome of `check`, `verify` and `same` says.
-use Rattle.std.proofs.Common.{◌≡◌, ℕ, Bool, true, false, List, Option, Some, None, sym, subst, ◌∙◌, arith, codes, length, []}
+-- What an outcome of `check`, `verify`, `same` and `make` says.
+use Rattle.std.proofs.Common.{◌≡◌, inl, inr, ℕ, Bool, true, false, List, Option, Some, None, sym, subst, ◌∙◌, arith, codes, length, []}
 use Rattle.std.specs.Prelude.{◌==◌, ◌&&◌, MatchBool}
 use Rattle.cb_model.specs.declared.Circuit.{Circuit}
 use Rattle.cb_model.specs.declared.Outcome.{Outcome}
@@ -13,7 +13,7 @@ use Rattle.cb_model.specs.Verdicts.{Compared, agrees, differs, stopped}
 use Rattle.cb_model.specs.Output.{BelowNodes, Loaded, VerifySays, SameSays, no_module, module_named, spec_named}
 use Rattle.cb_lines.specs.Ends.{IsDecided}
 use Rattle.cb_lines.proofs.Outcomes.{Facts, refusal-facts, NotUsage}
-use Rattle.cb_commands.specs.Says.{CheckSays, VerifyOver, SameOver}
+use Rattle.cb_commands.specs.Says.{CheckSays, VerifyOver, SameOver, MakeSays}
 
 below-number : (nodes : Nodes) (n : ℕ) → BelowNodes nodes n → IsNumber nodes
 below-number Max n h = h
@@ -65,4 +65,17 @@ check-facts l lines o h = record {
   ends = subst IsDecided (sym h.1) tt;
   other = λ p. let q : outcome.Done ≡ outcome.Refused 19 = sym h.1 ∙ p in absurd (cc);
   stops = λ p. let q : outcome.Done ≡ outcome.Stopped = sym h.1 ∙ p in absurd (cc);
+}
+
+-- `make` stops only where a number of nodes is named
+pub make-facts : (bits : ℕ) (nodes : Nodes) (lines : List Text) (o : Outcome) → MakeSays bits nodes lines o → Facts (IsNumber nodes) o
+make-facts bits nodes lines o (l, i, inl h) = record {
+  ends = subst IsDecided (sym h.1) tt;
+  other = λ p. let q : outcome.Done ≡ outcome.Refused 19 = sym h.1 ∙ p in absurd (cc);
+  stops = λ p. let q : outcome.Done ≡ outcome.Stopped = sym h.1 ∙ p in absurd (cc);
+}
+make-facts bits nodes lines o (l, i, inr h) = record {
+  ends = subst IsDecided (sym h.2) tt;
+  other = λ p. let q : outcome.Stopped ≡ outcome.Refused 19 = sym h.2 ∙ p in absurd (cc);
+  stops = λ p. below-number nodes _ h.0;
 }

@@ -1,5 +1,5 @@
 -- What is decided before a byte is written.
-use Rattle.std.specs.Prelude.{◌≡◌, ℕ, ◌-◌, ◌≤◌, List, [], ◌∷◌, ◌++◌, codes, length, Option, Some, None, Result, Ok, Err}
+use Rattle.std.specs.Prelude.{◌≡◌, ℕ, ◌+◌, ◌-◌, ◌*◌, ◌≤◌, List, [], ◌∷◌, ◌++◌, codes, length, Option, Some, None, Result, Ok, Err}
 use Rattle.cb_model.specs.declared.Outcome.{Outcome}
 use Rattle.cb_model.specs.declared.Outcome.TheVariants as outcome
 use Rattle.cb_model.specs.Text.{Text, lines_text}
@@ -7,7 +7,7 @@ use Rattle.cb_model.specs.Circuits.{Module}
 use Rattle.cb_model.specs.Verdicts.{differs_text}
 use Rattle.cb_dd.specs.declared.Stop.TheVariants as stop
 use Rattle.cb_lines.specs.Ends.{IsSaid, line_bytes}
-use Rattle.cb_lines.specs.Lines.{word_text, names_text}
+use Rattle.cb_lines.specs.Lines.{adder_size_text, word_text, names_text}
 use Rattle.cb_lines.specs.declared.lines.Pair.{Pair}
 use Rattle.cb_lines.specs.declared.lines.TheConstants.{STOPPED_NODES, NO_MODULE, NO_SPEC, PORTS_DIFFER}
 use Rattle.cb_verify.specs.declared.Verdict.{Verdict}
@@ -45,3 +45,8 @@ ComparisonSays pair ports (Err (error.Stop stop.Memory)) text result = ⊥
 abbrev pub FitsPorts : ℕ → Verdict → Type 0
 FitsPorts ports verdict.Verified = Unit {0}
 FitsPorts ports (verdict.Differs input output got wanted) = (ports ≡ length input) × (1 ≤ output)
+
+-- the answer tells the size of an adder of so many bits
+pub record TellsSize (bits : ℕ) (a : Answer) : Type 0 where
+  pub line : line_bytes a.line ≡ lines_text (adder_size_text (2 * bits + 1) (bits + 1) (5 * bits) ∷ [])
+  pub outcome : a.outcome ≡ outcome.Done

@@ -61,7 +61,7 @@ pub fn same<O: Sink>(
 }
 
 // What `verify` says.
-fn verified(
+pub(crate) fn verified(
     alloc: Global,
     file: &Accepted<'_>,
     name: &[u8],

@@ -1,4 +1,5 @@
-//! The commands that decide their one line over an accepted file before a byte is written: `check`, `verify` and `same`.
+//! The commands that decide their one line before a byte is written: `check`, `verify` and `same` over an accepted file, and
+//! `make` over the text that it generates.
 #![tactic(auto)]
 
 ghost use Rattle.std.specs.Prelude.{◌≡◌, count_by, IfOk};
@@ -21,8 +22,10 @@ use std::alloc::{AllocError, Global};
 
 mod answer;
 mod comparing;
+mod making;
 
 pub use comparing::{same, verify};
+pub use making::make;
 
 /// `check`: prints how many clauses and modules an accepted file has.
 pub fn check<O: Sink>(alloc: Global, file: &Accepted<'_>, out: &mut O) -> Outcome

@@ -24,3 +24,8 @@ word_text (pair.Modules one two) = codes "same "
 abbrev pub names_text : Pair → Text
 names_text (pair.Specified name) = name_text name.now
 names_text (pair.Modules one two) = name_text one.now ++ codes " " ++ name_text two.now
+
+-- how large an adder is that is right
+abbrev pub adder_size_text : ℕ → ℕ → ℕ → Text
+adder_size_text inputs outputs gates =
+    codes "verified adder: inputs " ++ decimal inputs ++ codes ", outputs " ++ decimal outputs ++ codes ", gates " ++ decimal gates

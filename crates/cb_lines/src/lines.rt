@@ -3,7 +3,7 @@
 ghost use Rattle.std.specs.Prelude.{◌≡◌, ◌≤◌, ◌-◌, [], ◌∷◌, ◌++◌, map, length, codes, decimal, IfOk, OnOk};
 ghost use Rattle.cb_model.specs.Text.{shown_name, lines_text};
 ghost use Rattle.cb_model.specs.Verdicts.{bit_text, port_texts, at_text, differs_text};
-ghost use Rattle.cb_lines.specs.Lines.{spaced, output_text, word_text, names_text};
+ghost use Rattle.cb_lines.specs.Lines.{adder_size_text, spaced, output_text, word_text, names_text};
 
 use cb_show::push_name;
 use itoa::Buffer;
@@ -86,6 +86,26 @@ pub fn checked_line(alloc: Global, clauses: usize, modules: usize) -> Result<Vec
     line.extend_from_slice(b" clauses, ")?;
     line.extend_from_slice(number.format(modules).as_bytes())?;
     line.extend_from_slice(b" modules\n")?;
+    Ok(line)
+}
+
+/// The line of a generated adder that is right: how many inputs, outputs and gates it has.
+pub fn adder_line(
+    alloc: Global,
+    inputs: u32,
+    outputs: u32,
+    gates: u32,
+) -> Result<Vec<u8>, AllocError>
+    ensures { IfOk result (λ v. v.items ≡ lines_text (adder_size_text inputs outputs gates ∷ [])) }
+{
+    let mut number = Buffer::new();
+    let mut line = Vec::from_slice(alloc, b"verified adder: inputs ")?;
+    line.extend_from_slice(number.format(inputs).as_bytes())?;
+    line.extend_from_slice(b", outputs ")?;
+    line.extend_from_slice(number.format(outputs).as_bytes())?;
+    line.extend_from_slice(b", gates ")?;
+    line.extend_from_slice(number.format(gates).as_bytes())?;
+    line.push(b'\n')?;
     Ok(line)
 }
 
