@@ -1,5 +1,5 @@
 -- Each rule and query is refused or not, and stands for a clause or goals.
-use Rattle.std.proofs.Common.{◌≡◌, ◌⊎◌, inl, inr, ℕ, zero, suc, ◌+◌, ◌<◌, Bool, true, false, not, ◌||◌, List, [], ◌∷◌, ◌++◌, map, length, refl, sym, ◌∙◌, ap, subst, arith, bytes_eq, nat_eq, ◌&&◌}
+use Rattle.std.proofs.Common.{◌≡◌, ◌⊎◌, inl, inr, ℕ, suc, Bool, true, false, ◌||◌, List, [], ◌∷◌, ◌++◌, map, length, refl, ap, arith, bytes_eq, nat_eq, ◌&&◌}
 use Rattle.std.proofs.lemmas.List.Kept.{AllPairs-cons}
 use Rattle.std.proofs.lemmas.List.Elements.{All-cons}
 use Rattle.std.proofs.lemmas.Slice.Eq.{bytes_eq-Decides}
@@ -15,7 +15,7 @@ use Rattle.cb_model.specs.Text.{Text}
 use Rattle.cb_model.specs.Grammar.{Form, FormGoal, ACall, AnEqual, FormClause, Directive, Rule, FormQuery}
 use Rattle.cb_model.specs.Directives.{Sign, has_sign, same_sign, Declared, sorts_of, Refusal, Twice, Unknown, SortClash, heads}
 use Rattle.cb_model.specs.Sorts.{Body, Var, Equation, Clash, Numbering, sign_number, as_tree, as_arguments, apart}
-use Rattle.cb_model.specs.Loading.{is_fact, is_taken, goal_unknown, body_of, query_body, BodyRefusal, RulesRefusal, none, skip, directive, passes, refused, body_variables, HaveSorts, no_sorts, more_sorts, call_goal, IsGoal, a_call, an_equal, AreGoals, no_goals, more_goals, numbering, head_sign, IsClause, HaveClauses, no_clauses, skips, skips_directive, a_clause, words_named, IsProgram, module_names, clauses_signs, goals_signs}
+use Rattle.cb_model.specs.Loading.{is_fact, is_taken, goal_unknown, body_of, query_body, BodyRefusal, RulesRefusal, none, skip, directive, passes, refused, body_variables, HaveSorts, no_sorts, more_sorts, call_goal, IsGoal, a_call, an_equal, AreGoals, no_goals, more_goals, numbering, head_sign, IsClause, HaveClauses, no_clauses, skips, skips_directive, a_clause, words_named, module_names, clauses_signs, goals_signs}
 use Rattle.cb_model.specs.Program.{Program}
 use Rattle.cb_model.specs.Circuits.{circuit_of}
 use Rattle.cb_model.specs.Derivation.{Query}

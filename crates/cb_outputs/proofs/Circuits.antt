@@ -1,25 +1,23 @@
 -- The circuits of an accepted program's goals are there.
-use Rattle.std.proofs.Common.{◌≡◌, ◌⊎◌, inl, inr, ℕ, zero, suc, ◌+◌, ◌<◌, Bool, true, false, not, ◌||◌, cond, List, [], ◌∷◌, ◌++◌, map, length, refl, sym, ◌∙◌, ap, subst, arith, length-append}
-use Rattle.std.proofs.lemmas.List.{length-map}
-use Rattle.std.specs.Prelude.{Option, Some, None, slice_get, unwrap_or, position, codes, MatchBool, if◌then◌else◌}
+use Rattle.std.proofs.Common.{◌≡◌, inl, inr, ℕ, zero, suc, ◌+◌, ◌<◌, Bool, true, false, not, ◌||◌, cond, List, [], ◌∷◌, ◌++◌, map, length, refl, sym, ◌∙◌, ap, subst, arith, length-append}
+use Rattle.std.specs.Prelude.{Option, Some, None, slice_get, unwrap_or, position, codes, if◌then◌else◌}
 use Rattle.std.specs.List.{list_any}
 use Rattle.cb_model.specs.Bits.{Each}
 use Rattle.cb_model.specs.Text.{Text}
 use Rattle.cb_model.specs.declared.Goal.{Goal}
 use Rattle.cb_model.specs.declared.Goal.TheVariants as goal
-use Rattle.cb_model.specs.declared.Clause.{Clause}
 use Rattle.cb_model.specs.declared.Circuit.{Circuit}
 use Rattle.cb_model.specs.Grammar.{Form, Forms, Variable, Integer, Name, Closed, Open, Not, And, Xor, Or, Last, More, FormGoal, ACall, AnEqual, FormClause, Directive, Rule}
-use Rattle.cb_model.specs.Directives.{Sign, same_sign, has_sign, count_of, Declared, sorts_of, Refusal, Twice, Unknown, SortClash}
-use Rattle.cb_model.specs.Sorts.{Body, Clash, Numbering, apart, circuit_sign, sign_number, as_trees}
-use Rattle.cb_model.specs.Loading.{is_fact, sign_is, module_sign, spec_sign, first_atom, module_names, names_it, names_module, module_number, plain_goals, is_unknown, goal_unknown, is_taken, body_of, BodyRefusal, circuit_goal, call_goal, IsGoal, a_call, an_equal, AreGoals, no_goals, more_goals}
-use Rattle.cb_model.specs.Facts.{Circuits, FactRefusal, FactReads, bodied, bad_module, bad_spec, a_module, refused_module, a_spec, second_spec, FactsRead, no_facts, no_fact, a_fact, refused}
+use Rattle.cb_model.specs.Directives.{Sign, same_sign, has_sign, count_of, Declared, sorts_of}
+use Rattle.cb_model.specs.Sorts.{Body, Numbering, apart, circuit_sign, sign_number, as_trees}
+use Rattle.cb_model.specs.Loading.{sign_is, module_sign, spec_sign, first_atom, module_names, names_it, names_module, module_number, plain_goals, is_unknown, goal_unknown, circuit_goal, call_goal, IsGoal, a_call, an_equal, AreGoals, no_goals, more_goals}
+use Rattle.cb_model.specs.Facts.{Circuits, FactRefusal, a_module, a_spec, FactsRead, no_facts, no_fact, a_fact, refused}
 use Rattle.cb_model.specs.Circuits.{flat}
 use Rattle.cb_model.specs.Program.{Program}
 use Rattle.cb_laws.proofs.Listed.{or_cases}
 use Rattle.cb_laws.proofs.OneFacts.{arguments, sign-arguments, module-arguments, spec-arguments}
 use Rattle.cb_laws.proofs.SortedTrees.{behind, position-cons}
-use Rattle.cb_outputs.specs.Exists.{HasCircuit, HaveCircuits}
+use Rattle.cb_outputs.specs.Exists.{HasCircuit}
 
 -- ---- as many flattened modules as module facts
 

@@ -1,7 +1,7 @@
 -- What is reached from some things along some arrows is a list.
-use Rattle.std.proofs.Common.{◌≡◌, ◌⊎◌, inl, inr, ℕ, zero, suc, ◌+◌, ◌<◌, ◌≤◌, Bool, true, false, List, [], ◌∷◌, ◌++◌, length, refl, sym, ◌∙◌, ap, subst, arith}
-use Rattle.std.specs.Prelude.{Option, Some, None, slice_get, flat_map, Contains}
-use Rattle.cb_laws.proofs.Search.{Decision, equal_to, both}
+use Rattle.std.proofs.Common.{◌≡◌, ◌⊎◌, inl, inr, ℕ, zero, suc, ◌<◌, List, [], ◌∷◌, ◌++◌, length, refl, sym, ap, subst, arith}
+use Rattle.std.specs.Prelude.{Option, Some, slice_get, flat_map, Contains}
+use Rattle.cb_laws.proofs.Search.{Decision}
 
 -- ---- options and places
 

@@ -1,6 +1,6 @@
 -- What was written where a run broke off begins an output.
-use Rattle.std.proofs.Common.{◌≡◌, ◌⊎◌, inl, inr, ℕ, ◌+◌, ◌≤◌, Bool, ◌||◌, List, [], ◌∷◌, ◌++◌, length, refl, sym, ◌∙◌, ap, subst, append_assoc}
-use Rattle.std.specs.Prelude.{Option, Some, None}
+use Rattle.std.proofs.Common.{◌≡◌, inr, ℕ, ◌+◌, Bool, ◌||◌, List, [], ◌∷◌, ◌++◌, refl, sym, ◌∙◌, ap, subst, append_assoc}
+use Rattle.std.specs.Prelude.{Option, None}
 use Rattle.cb_model.specs.Bits.{Each}
 use Rattle.cb_model.specs.Text.{Text, lines_text, IsPrefix}
 use Rattle.cb_model.specs.Equations.{Solvable}
@@ -10,7 +10,7 @@ use Rattle.cb_model.specs.Program.{Program}
 use Rattle.cb_model.specs.Derivation.{Branch, Query, Entry, Note, Made, End, Goes, here, on, Ends, Replaces, notes_of, resolutions_of, printed_of, first_branch, SoFar, Plain, runs, stopped}
 use Rattle.cb_model.specs.Line.{Names}
 use Rattle.cb_model.specs.Commands.{Nodes}
-use Rattle.cb_model.specs.Output.{Loaded, IsLoaded, AreLines, no_lines, more_lines, QuerySays, all, end_text, is_stop, QueriesSay, more_queries, QueriesRefusal, none, passes, stops, run_outcome, CommandSays, Output, QueriesBegin, within, in_last, behind, OutputBegins, nothing_yet, begins, so_far}
+use Rattle.cb_model.specs.Output.{Loaded, IsLoaded, AreLines, no_lines, more_lines, QuerySays, all, end_text, is_stop, QueriesSay, more_queries, QueriesRefusal, passes, stops, run_outcome, CommandSays, QueriesBegin, within, in_last, behind, nothing_yet, begins, so_far}
 use Rattle.cb_laws.specs.Laws.{NotesBegin}
 use Rattle.cb_outputs.specs.Exists.{BeginningExtends}
 use Rattle.cb_laws.proofs.Determined.{moves_one, replaces_one, ends_no_step}
@@ -57,6 +57,8 @@ whole_covers p q budget v ns ms end y (stopped w e) g = let h = g.begins in absu
 
 lines_join : (p : Program) (names : Names) (bs cs : List Branch) (xs ys : List Text) → AreLines p names bs xs → AreLines p names cs ys → AreLines p names (bs ++ cs) (xs ++ ys)
 lines_join p names [] cs [] ys no_lines h = h
+lines_join p names [] cs (x ∷ xs) ys a h = elim a [ ]
+lines_join p names (b ∷ bs) cs [] ys a h = elim a [ ]
 lines_join p names (b ∷ bs) cs (x ∷ xs) ys (more_lines i r) h = more_lines i (lines_join p names bs cs xs ys r h)
 
 each_last : (P : Branch → Type 0) (xs ys : List Branch) → Each P (xs ++ ys) → Each P ys

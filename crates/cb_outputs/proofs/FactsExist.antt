@@ -1,5 +1,5 @@
 -- The facts of a file are read, up to a first refusal.
-use Rattle.std.proofs.Common.{◌≡◌, ◌⊎◌, inl, inr, ℕ, zero, suc, ◌+◌, ◌<◌, Bool, true, false, not, ◌||◌, nat_lt, List, [], ◌∷◌, ◌++◌, length, refl, sym, ◌∙◌, ap, subst, arith, bytes_eq}
+use Rattle.std.proofs.Common.{◌≡◌, ◌⊎◌, inl, inr, ℕ, zero, suc, ◌+◌, ◌<◌, Bool, true, false, nat_lt, List, [], ◌∷◌, length, refl, sym, subst, arith, bytes_eq}
 use Rattle.std.specs.Prelude.{Option, Some, None, is_some, slice_get, flat_map, Contains, MatchBool, if◌then◌else◌}
 use Rattle.std.specs.List.{list_any}
 use Rattle.std.proofs.lemmas.Bool.{cases_eq}
@@ -9,8 +9,8 @@ use Rattle.cb_model.specs.Grammar.{Form, FormGoal, FormClause, Directive, Rule}
 use Rattle.cb_model.specs.Circuits.{Module, Instance, Flat, flat}
 use Rattle.cb_model.specs.Sorts.{apart}
 use Rattle.cb_model.specs.Loading.{is_fact, sign_is, module_sign, spec_sign}
-use Rattle.cb_model.specs.Facts.{Circuits, Spec, FactRefusal, Twice, Pins, Driven, Cycle, Part, Large, Feeds, Leads, feeds, leads_on, HasCycle, ModuleRefusal, is_part, instances_fault, all_driven_once, module_of, spec_of, with_module, with_spec, FactReads, bodied, bad_module, bad_spec, a_module, refused_module, a_spec, second_spec, FactsRead, no_facts, no_fact, a_fact, refused}
-use Rattle.cb_laws.proofs.Search.{Decision, both, equal_to}
+use Rattle.cb_model.specs.Facts.{Circuits, Spec, FactRefusal, Twice, Pins, Driven, Cycle, Large, Feeds, Leads, feeds, leads_on, HasCycle, ModuleRefusal, is_part, instances_fault, all_driven_once, module_of, spec_of, with_module, with_spec, FactReads, bodied, bad_module, bad_spec, a_module, refused_module, a_spec, second_spec, FactsRead, no_facts, no_fact, a_fact, refused}
+use Rattle.cb_laws.proofs.Search.{Decision, equal_to}
 use Rattle.cb_laws.proofs.Listed.{or_cases}
 use Rattle.cb_outputs.proofs.Closures.{one_some, slice_within, In, in_flat, flat_in, contained, containing, search_list, in_decided, Closure, closure}
 use Rattle.cb_outputs.proofs.Marks.{text_same, given, given_in, in_given}

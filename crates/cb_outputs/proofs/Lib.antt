@@ -12,3 +12,7 @@ pub mod Files
 pub mod Verdicts
 pub mod Outputs
 pub mod Extends
+pub mod OneFile
+pub mod OneVerdict
+pub mod OneQuery
+pub mod OneOutput

@@ -1,10 +1,9 @@
 -- A branch whose equations are solvable has a line.
-use Rattle.std.proofs.Common.{◌≡◌, ◌⊎◌, inl, inr, ℕ, zero, suc, ◌+◌, ◌<◌, ◌≤◌, Bool, true, false, not, List, [], ◌∷◌, ◌++◌, map, length, get_or, refl, sym, ◌∙◌, ap, subst, arith, length-append}
+use Rattle.std.proofs.Common.{◌≡◌, inl, inr, ℕ, zero, suc, ◌+◌, ◌≤◌, Bool, true, false, not, List, [], ◌∷◌, ◌++◌, map, length, get_or, refl, sym, ◌∙◌, ap, subst, arith, length-append}
 use Rattle.std.proofs.lemmas.List.{length-map}
 use Rattle.std.specs.Prelude.{flat_map, codes}
 use Rattle.cb_model.specs.declared.Tree.{Tree}
 use Rattle.cb_model.specs.Bits.{Bits, numbers, numbers_from}
-use Rattle.cb_model.specs.Values.{World}
 use Rattle.cb_model.specs.Equations.{Solvable}
 use Rattle.cb_model.specs.Answers.{leaves, IsShape, Gives, Gen, Picks}
 use Rattle.cb_model.specs.Program.{Program}

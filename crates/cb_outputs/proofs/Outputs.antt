@@ -1,13 +1,12 @@
 -- Words, file and input have an output.
-use Rattle.std.proofs.Common.{◌≡◌, ◌⊎◌, inl, inr, ℕ, ◌+◌, ◌*◌, ◌<◌, ◌≤◌, List, [], ◌∷◌, ◌++◌, length, refl}
+use Rattle.std.proofs.Common.{inl, inr, ℕ, ◌+◌, ◌*◌, List, [], ◌∷◌, ◌++◌, refl}
 use Rattle.std.specs.Prelude.{Option, Some, None, codes, decimal}
 use Rattle.cb_model.specs.declared.Outcome.{Outcome}
 use Rattle.cb_model.specs.declared.Outcome.TheVariants as outcome
 use Rattle.cb_model.specs.Text.{Text, lines_text}
-use Rattle.cb_model.specs.Grammar.{Whole, IsReading, ReadsQuery, FormQuery}
 use Rattle.cb_model.specs.Commands.{Command, Check, Run, Verify, Same, Make, Nodes, command_of}
-use Rattle.cb_model.specs.Refusals.{Refused, Refuses, refusal_line, usage}
-use Rattle.cb_model.specs.Output.{Loaded, IsLoaded, FileRefused, InputRefused, QueriesRefusal, QueriesSay, run_outcome, checked_text, LoadedSays, FileSays, source_of, CommandSays, Output}
+use Rattle.cb_model.specs.Refusals.{refusal_line, usage}
+use Rattle.cb_model.specs.Output.{Loaded, IsLoaded, run_outcome, checked_text, LoadedSays, FileSays, source_of, CommandSays}
 use Rattle.cb_outputs.specs.Exists.{OutputExists}
 use Rattle.cb_outputs.proofs.Files.{FileReads, file_reads, InputReads, input_reads}
 use Rattle.cb_outputs.proofs.Runnings.{queries_say}

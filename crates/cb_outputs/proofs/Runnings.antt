@@ -1,22 +1,22 @@
 -- The queries of an accepted input say something.
-use Rattle.std.proofs.Common.{◌≡◌, ◌⊎◌, inl, inr, ℕ, zero, suc, ◌+◌, Bool, true, false, ◌||◌, List, [], ◌∷◌, ◌++◌, map, length, refl, sym, ◌∙◌, ap, subst, arith}
+use Rattle.std.proofs.Common.{◌≡◌, ◌⊎◌, ℕ, ◌+◌, Bool, true, false, ◌||◌, List, [], ◌∷◌, ◌++◌, map, length, refl, ◌∙◌, ap, arith}
 use Rattle.std.proofs.lemmas.List.{length-map}
 use Rattle.std.specs.Prelude.{Option, Some, None, MatchBool}
 use Rattle.std.specs.List.{list_any}
 use Rattle.cb_model.specs.Bits.{Each}
 use Rattle.cb_model.specs.Text.{Text}
 use Rattle.cb_model.specs.declared.Clause.{Clause}
-use Rattle.cb_model.specs.Grammar.{Form, FormGoal, FormClause, Directive, Rule, FormQuery}
+use Rattle.cb_model.specs.Grammar.{FormClause, Directive, Rule, FormQuery}
 use Rattle.cb_model.specs.Directives.{Sign, Declared, Refusal, Twice, Unknown, SortClash, heads}
 use Rattle.cb_model.specs.Sorts.{Body, Clash}
-use Rattle.cb_model.specs.Loading.{goal_unknown, is_taken, query_body, body_of, BodyRefusal, RulesRefusal, none, skip, directive, passes, refused, HaveClauses, no_clauses, skips, skips_directive, a_clause, module_names, numbering, IsProgram}
+use Rattle.cb_model.specs.Loading.{goal_unknown, is_taken, query_body, body_of, BodyRefusal, RulesRefusal, skip, directive, passes, refused, HaveClauses, no_clauses, skips, skips_directive, a_clause, module_names, numbering}
 use Rattle.cb_model.specs.Program.{Program}
 use Rattle.cb_model.specs.Circuits.{circuit_of}
 use Rattle.cb_model.specs.Facts.{no_circuits}
 use Rattle.cb_model.specs.Derivation.{Query}
 use Rattle.cb_model.specs.Line.{Names}
 use Rattle.cb_model.specs.Commands.{Nodes}
-use Rattle.cb_model.specs.Output.{Loaded, IsLoaded, IsQuery, QuerySays, QueriesSay, no_queries, more_queries, QueriesRefusal, none as no_more, passes as query_passes, stops}
+use Rattle.cb_model.specs.Output.{Loaded, IsLoaded, IsQuery, QueriesSay, no_queries, more_queries, QueriesRefusal, passes as query_passes, stops}
 use Rattle.cb_outputs.specs.Exists.{HasCircuit, HaveCircuits}
 use Rattle.cb_outputs.proofs.Circuits.{flats_count, goals_have}
 use Rattle.cb_outputs.proofs.Bodies.{is_query}

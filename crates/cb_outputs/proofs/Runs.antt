@@ -8,12 +8,11 @@ use Rattle.cb_model.specs.declared.Tree.{Tree}
 use Rattle.cb_model.specs.declared.Goal.{Goal}
 use Rattle.cb_model.specs.declared.Goal.TheVariants as goal
 use Rattle.cb_model.specs.declared.Clause.{Clause}
-use Rattle.cb_model.specs.declared.Circuit.{Circuit}
-use Rattle.cb_model.specs.Bits.{Bits, Each, Parts, none, yes_here, no_here}
+use Rattle.cb_model.specs.Bits.{Each, Parts, none, yes_here, no_here}
 use Rattle.cb_model.specs.Values.{World, tree_in_scope, tree_value}
 use Rattle.cb_model.specs.Equations.{Item, Pair, Part, SolvedAt, Solvable, Refuted, item_in_scope}
-use Rattle.cb_model.specs.Program.{Program, shift_goal, shift_tree, first_from, first_clause, next_clause, bools}
-use Rattle.cb_model.specs.Derivation.{Query, WordsHold, Matches, RuleMatches, Ready, is_demon, words_of, Waiting, Branch, Entry, Run, Try, Change, Answered, Dropped, Becomes, Adds, DemonMoves, CallMoves, GoalMoves, Moves, Woken, Replaces, extended, resolved, with_circuit, waits, tried, try_next, End, Whole, Stopped, Budget, Resolutions, Variables, Equations, Goes, here, on, Ends, whole, stops, Note, notes_of, stop_of, resolutions_of, passed, Plain, runs, stopped, SoFar, Made, first_branch}
+use Rattle.cb_model.specs.Program.{Program, shift_goal, first_from, first_clause, next_clause, bools}
+use Rattle.cb_model.specs.Derivation.{WordsHold, Matches, RuleMatches, Ready, is_demon, words_of, Waiting, Branch, Entry, Run, Try, Change, Answered, Dropped, Becomes, Adds, DemonMoves, CallMoves, Moves, Woken, Replaces, extended, resolved, with_circuit, waits, tried, try_next, End, Whole, Stopped, Budget, Resolutions, Variables, Equations, Goes, here, on, Ends, whole, stops, Note, notes_of, stop_of, resolutions_of, passed, Plain, runs, stopped, Made, first_branch}
 use Rattle.cb_laws.specs.Laws.{InScope}
 use Rattle.cb_laws.proofs.Search.{Decision, both, equal_to}
 use Rattle.cb_laws.proofs.Bounds.{items_wider, tree_wider, tree_bound}

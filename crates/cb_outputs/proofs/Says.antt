@@ -1,13 +1,12 @@
 -- Each query says something.
-use Rattle.std.proofs.Common.{◌≡◌, ℕ, Bool, List, [], ◌∷◌, ◌++◌, refl}
+use Rattle.std.proofs.Common.{ℕ, List, [], ◌∷◌, ◌++◌, refl}
 use Rattle.cb_model.specs.Bits.{Each}
 use Rattle.cb_model.specs.Text.{Text}
 use Rattle.cb_model.specs.Equations.{Solvable}
 use Rattle.cb_model.specs.Program.{Program}
 use Rattle.cb_model.specs.Derivation.{Branch, Query, Note, End, Plain, runs, stopped, printed_of}
 use Rattle.cb_model.specs.Line.{Names}
-use Rattle.cb_model.specs.Commands.{Nodes}
-use Rattle.cb_model.specs.Output.{AreLines, no_lines, more_lines, QuerySays, all, end_text, is_stop}
+use Rattle.cb_model.specs.Output.{AreLines, no_lines, more_lines, all, end_text, is_stop}
 use Rattle.cb_laws.proofs.Printed.{printed_are_solvable}
 use Rattle.cb_outputs.specs.Exists.{QueryExists}
 use Rattle.cb_outputs.proofs.Runs.{run_exists}

@@ -1,5 +1,5 @@
 -- Each text is read as something.
-use Rattle.std.proofs.Common.{◌≡◌, ◌≢◌, ◌⊎◌, inl, inr, ℕ, zero, suc, ◌+◌, ◌-◌, ◌^◌, ◌<◌, ◌≤◌, Bool, true, false, ◌==◌, if◌then◌else◌, List, [], ◌∷◌, ◌++◌, length, take, drop, refl, sym, ◌∙◌, ap, subst, arith, ℤ, pos, negsuc}
+use Rattle.std.proofs.Common.{◌≡◌, ◌⊎◌, inl, inr, ℕ, zero, suc, ◌+◌, ◌-◌, ◌^◌, ◌<◌, ◌≤◌, Bool, true, false, ◌==◌, if◌then◌else◌, List, [], ◌∷◌, length, take, drop, refl, sym, subst, arith, ℤ, pos, negsuc}
 use Rattle.std.proofs.lemmas.Bool.{cases_eq, cases_lt}
 use Rattle.std.specs.Prelude.{Option, Some, None, FitsSigned}
 use Rattle.std.specs.Int.{w64}
@@ -9,7 +9,7 @@ use Rattle.cb_model.specs.Text.{Text}
 use Rattle.cb_model.specs.Tokens.{Token, Fault, Byte, Number, Quote, spelled, Longest, NoToken, InRange, is_layout, from_newline, Lexes, ended, layout, comment, token, number, quote, byte}
 use Rattle.cb_model.specs.Grammar.{ReadsAll, no_more, one_more, Reading, Whole, Lexed, Syntax, Unfinished, Deep, IsReading, whole, lexed, syntax_at, deep_at, unfinished, ReadsClause, ReadsQuery, FormClause, FormQuery, line_of, clause_start}
 use Rattle.cb_laws.proofs.Search.{Decision}
-use Rattle.cb_syntax.specs.Machine.{Item, Clauses, Queries, run} 
+use Rattle.cb_syntax.specs.Machine.{Item, Clauses, Queries, run}
 use Rattle.cb_syntax.specs.Machine as out
 use Rattle.cb_syntax.specs.declared.read.Stop.TheVariants as stop
 use Rattle.cb_syntax.proofs.Parts.{ReadsMany, no_piece, a_piece}

@@ -1,30 +1,30 @@
 -- Each comparison of accepted modules has a verdict.
-use Rattle.std.proofs.Common.{◌≡◌, ◌≢◌, ◌⊎◌, inl, inr, ℕ, zero, suc, ◌+◌, ◌^◌, ◌<◌, ◌≤◌, Bool, true, false, ◌&&◌, ◌==◌, if◌then◌else◌, List, [], ◌∷◌, ◌++◌, map, length, get_or, take, find, bytes_eq, refl, sym, ◌∙◌, ap, subst, arith, length-append}
+use Rattle.std.proofs.Common.{◌≡◌, ◌≢◌, ◌⊎◌, inl, inr, ℕ, zero, suc, ◌+◌, ◌^◌, ◌<◌, Bool, true, false, ◌&&◌, ◌==◌, if◌then◌else◌, List, [], ◌∷◌, ◌++◌, length, get_or, take, find, bytes_eq, refl, sym, ◌∙◌, ap, subst, arith}
 use Rattle.std.proofs.Math.Nat.{pow-suc}
 use Rattle.std.proofs.lemmas.Bool.{eqb-true, and_parts}
 use Rattle.std.proofs.lemmas.List.{length-map}
-use Rattle.std.specs.Prelude.{Option, Some, None, MatchBool, Contains, codes, sum_by}
+use Rattle.std.specs.Prelude.{Option, Some, None, MatchBool, codes, sum_by}
 use Rattle.cb_model.specs.declared.Circuit.{Circuit}
 use Rattle.cb_model.specs.declared.Outcome.{Outcome}
 use Rattle.cb_model.specs.declared.Outcome.TheVariants as outcome
 use Rattle.cb_model.specs.Bits.{weight}
 use Rattle.cb_model.specs.Text.{Text, name_text}
 use Rattle.cb_model.specs.Grammar.{FormClause, Directive, Rule}
-use Rattle.cb_model.specs.Circuits.{Module, Flat, flat, flat_named, circuit_of, Consistent, Outputs, read_all, Agrees, BySpec, spec_values, LeastDifference}
-use Rattle.cb_model.specs.Facts.{Circuits, Spec, FactRefusal, FactReads, bodied, bad_module, bad_spec, a_module, refused_module, a_spec, second_spec, FactsRead, no_facts, no_fact, a_fact, refused, no_circuits}
+use Rattle.cb_model.specs.Circuits.{Module, Flat, flat, flat_named, circuit_of, Outputs, read_all, Agrees, BySpec, spec_values, LeastDifference}
+use Rattle.cb_model.specs.Facts.{Circuits, Spec, FactRefusal, a_module, a_spec, FactsRead, no_facts, no_fact, a_fact, refused, no_circuits}
 use Rattle.cb_model.specs.Sound.{HasOneValuation}
 use Rattle.cb_model.specs.Verdicts.{Compared, agrees, differs, differs_text}
 use Rattle.cb_model.specs.Refusals.{Refused, refused as refusal, Refuses, refusal_line}
 use Rattle.cb_model.specs.Commands.{Nodes}
 use Rattle.cb_model.specs.Room.{expr_size}
 use Rattle.cb_model.specs.Output.{Loaded, IsLoaded, IsDetermined, BelowNodes, room_of, no_module, module_named, spec_named, VerifySays, SameSays}
-use Rattle.cb_laws.proofs.Search.{Decision, negated, same_bit, same_bits}
+use Rattle.cb_laws.proofs.Search.{Decision, same_bit, same_bits}
 use Rattle.cb_flat.proofs.Accepted.{flat_has_one}
 use Rattle.cb_outputs.proofs.Closures.{one_some, In, containing}
 
 -- ---- the least row
 
-weight_below : (xs : List Bool) → weight xs < 2 ^ length xs
+pub weight_below : (xs : List Bool) → weight xs < 2 ^ length xs
 weight_below [] = omega arith
 weight_below (x ∷ xs) =
     let w = weight_below xs in
@@ -110,11 +110,11 @@ pub record WantsOne (c : Circuit) (W : List Bool → List Bool → Type 0) : Typ
 output_count : (c : Circuit) (input output : List Bool) → Outputs c input output → length output ≡ length c.outputs
 output_count c input output h = ap length h.outputs ∙ length-map c.outputs (λ n. get_or h.v n false)
 
-output_only : (c : Circuit) (input ys zs : List Bool) → HasOneValuation c input → Outputs c input ys → Outputs c input zs → ys ≡ zs
+pub output_only : (c : Circuit) (input ys zs : List Bool) → HasOneValuation c input → Outputs c input ys → Outputs c input zs → ys ≡ zs
 output_only c input ys zs one y z =
     y.outputs ∙ ap (λ v. read_all v c.outputs) (one.only y.v y.consistent ∙ sym (one.only z.v z.consistent)) ∙ sym z.outputs
 
-outputs_wanted : (c d : Circuit) → d.inputs ≡ c.inputs → length d.outputs ≡ length c.outputs → IsDetermined d → WantsOne c (Outputs d)
+pub outputs_wanted : (c d : Circuit) → d.inputs ≡ c.inputs → length d.outputs ≡ length c.outputs → IsDetermined d → WantsOne c (Outputs d)
 outputs_wanted c d i o one = record {
   wanted = λ input e. let v = one input (e ∙ sym i) in (read_all v.v d.outputs, record { v = v.v; consistent = v.consistent; outputs = refl });
   only = λ input ys zs e y z. output_only d input ys zs (one input (e ∙ sym i)) y z;
@@ -148,19 +148,25 @@ module _ (c : Circuit) (W : List Bool → List Bool → Type 0) (one : IsDetermi
     where
       differ : (f : Least c.inputs Differs) → (f.2.0 ≡ f.2.1) ⊎ Differ f.2.0 f.2.1 → (input : List Bool) × (at : ℕ) × (got : Bool) × (wanted : Bool) × LeastDifference c W input at got wanted
       differ f (inl e) = absurd (f.2.4 e)
-      differ f (inr d) = (f.0, d.0, get_or f.2.0 d.0 false, get_or f.2.1 d.0 false, record {
-        xs = f.2.0;
-        ys = f.2.1;
-        width = f.1;
-        outputs = f.2.2;
-        by_spec = f.2.3;
-        within = d.1;
-        has = refl;
-        wants = refl;
-        differ = d.2;
-        least_output = d.3;
-        least_input = λ other us vs e l o w. same_unless other us vs (f.3 other e l) o w;
-      })
+      differ f (inr d) = (
+        f.0,
+        d.0,
+        get_or f.2.0 d.0 false,
+        get_or f.2.1 d.0 false,
+        record {
+          xs = f.2.0;
+          ys = f.2.1;
+          width = f.1;
+          outputs = f.2.2;
+          by_spec = f.2.3;
+          within = d.1;
+          has = refl;
+          wants = refl;
+          differ = d.2;
+          least_output = d.3;
+          least_input = λ other us vs e l o w. same_unless other us vs (f.3 other e l) o w;
+        },
+      )
 
       step : Least c.inputs Differs ⊎ NoRow c.inputs Differs → Agrees c W ⊎ ((input : List Bool) × (at : ℕ) × (got : Bool) × (wanted : Bool) × LeastDifference c W input at got wanted)
       step (inr none) = inl (λ input xs ys e o w. same_unless input xs ys (none input e) o w)
@@ -235,7 +241,7 @@ named_flat (n ∷ ms) (f ∷ fs) p x m e = step (bytes_eq n.name x) refl (λ k. 
 
 -- ---- `verify` and `same`
 
-both_equal : (a b c d : ℕ) → (a == b && c == d) ≡ true → (a ≡ b) × (c ≡ d)
+pub both_equal : (a b c d : ℕ) → (a == b && c == d) ≡ true → (a ≡ b) × (c ≡ d)
 both_equal a b c d h = let p = and_parts (a == b) (c == d) h in (eqb-true a b p.0, eqb-true c d p.1)
 
 module _ (file : Text) (l : Loaded) (loaded : IsLoaded file l) where
@@ -248,18 +254,18 @@ module _ (file : Text) (l : Loaded) (loaded : IsLoaded file l) where
   paired : Paired l.circuits.modules l.circuits.flats
   paired = facts_paired no_circuits l.circuits l.clauses None loaded.facts tt
 
-  flat_of : (x : Text) (m : Module) → module_named l.circuits x ≡ Some m → OfModule m (flat_named l.circuits.flats x) × In (flat_named l.circuits.flats x) l.circuits.flats
+  pub flat_of : (x : Text) (m : Module) → module_named l.circuits x ≡ Some m → OfModule m (flat_named l.circuits.flats x) × In (flat_named l.circuits.flats x) l.circuits.flats
   flat_of x m e = named_flat l.circuits.modules l.circuits.flats paired x m e
 
-  determined : (x : Text) (m : Module) → module_named l.circuits x ≡ Some m → IsDetermined (circuit_of (flat_named l.circuits.flats x))
+  pub determined : (x : Text) (m : Module) → module_named l.circuits x ≡ Some m → IsDetermined (circuit_of (flat_named l.circuits.flats x))
   determined x m e input k =
       let r = flat_of x m e in
       flat_has_one l.clauses None l.circuits (flat_named l.circuits.flats x) input loaded.facts (containing l.circuits.flats (flat_named l.circuits.flats x) r.1) k
 
-  outputs_number : (x : Text) (m : Module) → module_named l.circuits x ≡ Some m → length (circuit_of (flat_named l.circuits.flats x)).outputs ≡ length m.outputs
+  pub outputs_number : (x : Text) (m : Module) → module_named l.circuits x ≡ Some m → length (circuit_of (flat_named l.circuits.flats x)).outputs ≡ length m.outputs
   outputs_number x m e = let r = flat_of x m e in length-map (flat_named l.circuits.flats x).outputs _ ∙ r.0.2
 
-  spec_wanted : (x : Text) (m : Module) (s : Spec) → module_named l.circuits x ≡ Some m → length m.outputs ≡ length s.exprs → WantsOne (circuit_of (flat_named l.circuits.flats x)) (BySpec s.exprs)
+  pub spec_wanted : (x : Text) (m : Module) (s : Spec) → module_named l.circuits x ≡ Some m → length m.outputs ≡ length s.exprs → WantsOne (circuit_of (flat_named l.circuits.flats x)) (BySpec s.exprs)
   spec_wanted x m s e k = record {
     wanted = λ input i. (spec_values s.exprs input, refl);
     only = λ input ys zs i y z. y ∙ sym z;
@@ -280,7 +286,7 @@ module _ (file : Text) (l : Loaded) (loaded : IsLoaded file l) where
           let same = both_equal (length m.inputs) (length s.inputs) (length m.outputs) (length s.exprs) h in
           let one = determined name m e in
           let v = verdict (circuit_of (flat_named l.circuits.flats name)) (BySpec s.exprs) one (spec_wanted name m s e same.1) (name_text name) (codes "verified ") m.inputs
-              (BelowNodes nodes (room_of l.circuits (name ∷ []) (sum_by expr_size s.exprs))) in
+          (BelowNodes nodes (room_of l.circuits (name ∷ []) (sum_by expr_size s.exprs))) in
           (v.0, v.1, (one, v.2))
 
       step : (o : Option Module) (p : Option Spec) → module_named l.circuits name ≡ o → Answered (VerifySays l.circuits name nodes o p)
@@ -307,7 +313,7 @@ module _ (file : Text) (l : Loaded) (loaded : IsLoaded file l) where
           let ins : d.inputs ≡ c.inputs = (flat_of two n f).0.1 ∙ sym same.0 ∙ sym (flat_of one m e).0.1 in
           let outs : length d.outputs ≡ length c.outputs = outputs_number two n f ∙ sym same.1 ∙ sym (outputs_number one m e) in
           let v = verdict c (Outputs d) first (outputs_wanted c d ins outs second) (name_text one ++ codes " " ++ name_text two) (codes "same ") m.inputs
-              (BelowNodes nodes (room_of l.circuits (one ∷ two ∷ []) 0)) in
+          (BelowNodes nodes (room_of l.circuits (one ∷ two ∷ []) 0)) in
           (v.0, v.1, (first, second, v.2))
 
       step : (o p : Option Module) → module_named l.circuits one ≡ o → module_named l.circuits two ≡ p → Answered (SameSays l.circuits one two nodes o p)

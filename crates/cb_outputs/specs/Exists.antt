@@ -1,9 +1,8 @@
 -- Whole runs, lines and outputs exist.
-use Rattle.std.specs.Prelude.{◌≡◌, ℕ, Bool, List, [], ◌∷◌, ◌<◌, length, Option, Some, None, slice_get}
+use Rattle.std.specs.Prelude.{◌≡◌, ℕ, Bool, List, Some, slice_get}
 use Rattle.cb_model.specs.declared.Goal.{Goal}
 use Rattle.cb_model.specs.declared.Goal.TheVariants as goal
 use Rattle.cb_model.specs.declared.Circuit.{Circuit}
-use Rattle.cb_model.specs.declared.Clause.{Clause}
 use Rattle.cb_model.specs.Bits.{Each}
 use Rattle.cb_model.specs.Program.{Program}
 use Rattle.cb_model.specs.Derivation.{Query, Note, End, Plain, Branch}

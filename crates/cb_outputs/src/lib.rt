@@ -3,6 +3,7 @@
 #![tactic(auto)]
 
 ghost use Rattle.cb_outputs.specs.Exists.{RunExists, LineExists, QueryExists, OutputExists, BeginningExtends};
+ghost use Rattle.cb_outputs.specs.Ones.{FileIsOne, InputIsOne, QueryIsOne, OutputIsOne};
 
 /// Each query has a whole run.
 pub fn run_exists()
@@ -27,4 +28,24 @@ pub fn output_exists()
 /// What was written where a run broke off begins an output.
 pub fn beginning_extends()
     ensures { BeginningExtends }
+{}
+
+/// A file has one first refusal or one content, and not both.
+pub fn file_is_one()
+    ensures { FileIsOne }
+{}
+
+/// An input has one first refusal or one list of queries, and not both.
+pub fn input_is_one()
+    ensures { InputIsOne }
+{}
+
+/// What a query says is one, unless its nodes were too few.
+pub fn query_is_one()
+    ensures { QueryIsOne }
+{}
+
+/// Words, file and input have one output, unless the nodes were too few.
+pub fn output_is_one()
+    ensures { OutputIsOne }
 {}
