@@ -74,6 +74,15 @@ pub query-keeps : (s t : Seen) → Keeps s t → query_of t ≡ query_of s
 unfolding Keeps query_of
 query-keeps s t h = ap asked_query h.query
 
+-- the program and the query themselves, with their names
+pub source-keeps : (s t : Seen) → Keeps s t → t.program ≡ s.program
+unfolding Keeps
+source-keeps s t h = h.program
+
+pub asked-keeps : (s t : Seen) → Keeps s t → t.query ≡ s.query
+unfolding Keeps
+asked-keeps s t h = h.query
+
 pub nodes-keep : (s t : Seen) → Keeps s t → nodes_of t ≡ nodes_of s
 unfolding Keeps nodes_of
 nodes-keep s t h = h.nodes
@@ -117,7 +126,15 @@ loan-keeps s n b h = branch-fulls n s b h
 -- what a branch's terms say
 pub has-values : (s : Seen) (b : Branch) → IsBranch s b → HasItsValues s b
 unfolding IsBranch program_of
-has-values s b h = record { state = h.state; fits = h.fits; variables = h.variables; vals = h.vals; waiting = h.waiting }
+has-values s b h = record {
+  state = h.state;
+  fits = h.fits;
+  constants = h.constants;
+  drawn = h.drawn;
+  variables = h.variables;
+  vals = h.vals;
+  waiting = h.waiting;
+}
 
 pub call-fulls : (n : ℕ) (s : Seen) (call pred : ℕ) (args : List Tree) → IsCall s call pred args → IsCall (with_fulls n s) call pred args
 unfolding IsCall with_fulls

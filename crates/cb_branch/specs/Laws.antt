@@ -1,5 +1,6 @@
 -- Laws of a running branch: each is the contract of a function that does nothing.
-use Rattle.std.specs.Prelude.{◌≡◌, ℕ, []}
+use Rattle.std.specs.Prelude.{◌≡◌, ℕ, ◌+◌, []}
+use Rattle.cb_model.specs.Program.{bools}
 use Rattle.cb_model.specs.Derivation.{Branch}
 use Rattle.cb_unify.specs.State.{FitsTable, IsState}
 use Rattle.cb_items.specs.Standing.{HasVariables, IsVals}
@@ -10,11 +11,14 @@ use Rattle.cb_branch.specs.Lending.{left_with}
 abbrev pub LoanKeepsTheBranch : Type 0
 LoanKeepsTheBranch = (s : Seen) (n : ℕ) (b : Branch) → IsBranch s b → IsBranch (left_with n s) b
 
--- The terms of a branch: its variables are those that were made, and at each assignment of the constants the values that
--- they can have together are the solutions of the branch's equations. No goal of it waits.
+-- The terms of a branch: its constants are the program's, its Boolean variables are drawn behind them, its variables are
+-- those that were made, and at each assignment of the constants the values that they can have together are the solutions
+-- of the branch's equations. No goal of it waits.
 pub record HasItsValues (s : Seen) (b : Branch) : Type 0 where
   pub state : IsState s.state
   pub fits : FitsTable (program_of s).world.arguments s.state
+  pub constants : s.state.store.constants ≡ (program_of s).constants
+  pub drawn : s.state.store.drawn ≡ (program_of s).constants + bools b.sorts
   pub variables : HasVariables s.state b.sorts
   pub vals : IsVals (program_of s).world s.state b.items
   pub waiting : b.waiting ≡ []

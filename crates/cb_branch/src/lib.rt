@@ -14,8 +14,6 @@ ghost use Rattle.cb_branch.specs.Running.{GoesOn, HasRoom, IsBranch, IsCall, IsA
 ghost use Rattle.cb_model.specs.Output.{printed_from};
 ghost use Rattle.cb_branch.specs.Scope.{IsRunnable};
 ghost use Rattle.cb_branch.specs.Accepted.{AcceptedCanRun};
-ghost use Rattle.std.specs.Borrow.{sem};
-ghost use Rattle.cb_branch.specs.Lending.{LendsState};
 ghost use Rattle.cb_branch.specs.Laws.{BranchHasItsValues, LoanKeepsTheBranch};
 
 mod additions;
@@ -52,7 +50,9 @@ pub struct Call(pub usize);
 pub struct Running<'p, 's, 'q> {
     program: &'p Program<'s>,
     query: &'p Query<'q>,
-    state: State,
+    /// The terms. Who borrows them leaves them as they were, but for the count of refusals for nodes, as an `undo` to the
+    /// moment of the loan does: then the branch is the same (`loan_keeps_the_branch`).
+    pub state: State,
     // The variables of the query, and of each clause that was renamed.
     frames: Vec<Frame>,
     goals: Goals,
@@ -166,22 +166,6 @@ impl<'p, 's, 'q> Running<'p, 's, 'q> {
     {
         let (number, _) = self.query.printed(place)?;
         Some(self.frames[0].get(number))
-    }
-
-    /// The terms of the branch. Who borrows them leaves them as they were, but for the count of refusals for nodes, as an
-    /// `undo` to the moment of the loan does: then the branch is the same (`loan_keeps_the_branch`).
-    pub fn state(&mut self) -> &mut State
-        ensures* writes_back { sem 𝓛 (LendsState self.entry result) }
-        ensures value { result.now ≡ self.old.state }
-    {
-        &mut self.state
-    }
-
-    /// The terms of the branch, for reading.
-    pub fn state_ref(&self) -> &State
-        ensures { result.now ≡ self.now.state }
-    {
-        &self.state
     }
 
     /// The first clause of a predicate; `None` where it has none.

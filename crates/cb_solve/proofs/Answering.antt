@@ -33,6 +33,8 @@ follows m n o o' s s' b h t =
       nodes = t.nodes;
       program = t.program;
       query = t.query;
+      source = t.source;
+      asked = t.asked;
       budget = t.budget;
     }
 

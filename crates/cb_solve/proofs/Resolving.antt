@@ -12,7 +12,7 @@ use Rattle.cb_model.specs.Program.{Program, next_clause, bools}
 use Rattle.cb_model.specs.Derivation.{Branch, Entry, Run, Try, Query, Note, SoFar, Plain, Whole, runs, whole, Adds, Made, Change, passed, resolved, try_next, printed_of}
 use Rattle.cb_model.specs.Derivation as derivation
 use Rattle.cb_branch.specs.Running.{Seen, HasRoom, IsBranch, IsCall, Keeps, GoesOn, WantsNodes, fulls_of, moment_of, nodes_of, program_of, query_of, with_fulls}
-use Rattle.cb_branch.proofs.Laws.{branch-fulls, call-fulls, fulls-keep, fulls-with, keeps-refl, keeps-with, nodes-keep, program-keeps, query-keeps}
+use Rattle.cb_branch.proofs.Laws.{asked-keeps, branch-fulls, call-fulls, fulls-keep, fulls-with, keeps-refl, keeps-with, nodes-keep, program-keeps, query-keeps, source-keeps}
 use Rattle.cb_solve.specs.declared.Choice.{Choice}
 use Rattle.cb_solve.specs.declared.Budget.{Budget}
 use Rattle.cb_solve.specs.declared.Machine.{Machine}
@@ -121,6 +121,8 @@ turn-at m n t x ep eq h = as-of (λ p q. IfOk x (λ r. AtStep p q n r)) m.branch
 pub record SameRun (m o : Machine) : Type 0 where
   pub program : program_of o.branch ≡ program_of m.branch
   pub query : query_of o.branch ≡ query_of m.branch
+  pub source : o.branch.program ≡ m.branch.program
+  pub asked : o.branch.query ≡ m.branch.query
   pub budget : o.budget ≡ m.budget
   pub answers : o.answers ≡ m.answers
   pub nodes : nodes_of o.branch ≡ nodes_of m.branch
@@ -143,6 +145,8 @@ pub same-run : (m o : Machine) → IsSame m o → SameRun m o
 same-run m o s = record {
   program = program-keeps m.branch o.branch s.keeps;
   query = query-keeps m.branch o.branch s.keeps;
+  source = source-keeps m.branch o.branch s.keeps;
+  asked = asked-keeps m.branch o.branch s.keeps;
   budget = s.budget;
   answers = s.answers;
   nodes = nodes-keep m.branch o.branch s.keeps;
@@ -162,6 +166,8 @@ turn-of m o n (Ok r) s eu le h = record {
   answers = h.0.answers ∙ s.answers;
   program = program-keeps o.branch n.branch h.0.keeps ∙ s.program;
   query = query-keeps o.branch n.branch h.0.keeps ∙ s.query;
+  source = source-keeps o.branch n.branch h.0.keeps ∙ s.source;
+  asked = asked-keeps o.branch n.branch h.0.keeps ∙ s.asked;
   nodes = nodes-keep o.branch n.branch h.0.keeps ∙ s.nodes;
   fulls = let a = s.fulls in let b = fulls-keep o.branch n.branch h.0.keeps in omega arith;
   counts = λ next. (h.0.used ∙ eu, let u = h.0.used in let b = s.budget in let c = h.0.budget in omega (arith, u, eu));
@@ -248,6 +254,12 @@ module _ (m : Machine) (cs : Vec Choice Global) (top : Choice) (s : Seen) (h : T
   pub same-query : query_of s ≡ query_of m.branch
   same-query = query-keeps pd.t s since ∙ sym (query-keeps pd.t m.branch pd.keeps)
 
+  pub same-source : s.program ≡ m.branch.program
+  same-source = source-keeps pd.t s since ∙ sym (source-keeps pd.t m.branch pd.keeps)
+
+  pub same-asked : s.query ≡ m.branch.query
+  same-asked = asked-keeps pd.t s since ∙ sym (asked-keeps pd.t m.branch pd.keeps)
+
   pub is-back : IsBranch s pd.b
   is-back = subst (λ (x : Seen). IsBranch x pd.b) (sym back) (branch-fulls (fulls_of m.branch) pd.t pd.b pd.is)
 
@@ -274,6 +286,8 @@ module _ (m : Machine) (cs : Vec Choice Global) (top : Choice) (s : Seen) (h : T
   back-run o used only = record {
     program = ap (λ (x : Seen). program_of x) only.branch ∙ same-program;
     query = ap (λ (x : Seen). query_of x) only.branch ∙ same-query;
+    source = ap (λ (x : Seen). x.program) only.branch ∙ same-source;
+    asked = ap (λ (x : Seen). x.query) only.branch ∙ same-asked;
     budget = only.budget;
     answers = only.answers;
     nodes = ap (λ (x : Seen). nodes_of x) only.branch ∙ same-nodes;

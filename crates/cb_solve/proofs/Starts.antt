@@ -5,7 +5,7 @@ use Rattle.cb_model.specs.Program.{Program, bools}
 use Rattle.cb_model.specs.Derivation.{Branch, Entry, Run, Made, SoFar, here, Plain, stopped, Query, first_branch, passed}
 use Rattle.cb_model.specs.Derivation as derivation
 use Rattle.cb_branch.specs.Running.{Seen, IsBranch, Keeps, WantsNodes, fulls_of, nodes_of, program_of, query_of, unbegun}
-use Rattle.cb_branch.proofs.Laws.{nodes-keep, nodes-unbegun, program-keeps, program-unbegun, query-keeps, query-unbegun}
+use Rattle.cb_branch.proofs.Laws.{asked-keeps, nodes-keep, nodes-unbegun, program-keeps, program-unbegun, query-keeps, query-unbegun, source-keeps}
 use Rattle.cb_solve.specs.declared.Choice.{Choice}
 use Rattle.cb_solve.specs.declared.Machine.{Machine}
 use Rattle.cb_solve.specs.Machine.{FewAt, HasRoomFor, Stands, Stacked, none, RunsAt}
@@ -65,6 +65,8 @@ module _ (m : Machine) (u : IsUnbegun m) where
       answers = u.answers;
       program = program-keeps m.branch t kept;
       query = query-keeps m.branch t kept;
+      source = source-keeps m.branch t kept;
+      asked = asked-keeps m.branch t kept;
       nodes = nodes-keep m.branch t kept;
       begins = tt;
       stands = inl (
@@ -83,6 +85,8 @@ module _ (m : Machine) (u : IsUnbegun m) where
       answers = u.answers;
       program = program-keeps m.branch t kept;
       query = query-keeps m.branch t kept;
+      source = source-keeps m.branch t kept;
+      asked = asked-keeps m.branch t kept;
       nodes = nodes-keep m.branch t kept;
       begins = (
         record {
@@ -107,6 +111,8 @@ module _ (m : Machine) (u : IsUnbegun m) where
     answers = u.answers;
     program = refl;
     query = refl;
+    source = refl;
+    asked = refl;
     nodes = refl;
     begins = stopped derivation.Variables (first-variables (program_of m.branch) (query_of m.branch) m.budget h);
     stands = tt;
@@ -141,6 +147,8 @@ module _ (s : Source) (a : Asked) (resolutions nodes : ℕ) (u : Seen) (is : u �
     engine-begins = record {
       program = b.program ∙ ap program_of is ∙ program-unbegun s a nodes;
       query = b.query ∙ ap query_of is ∙ query-unbegun s a nodes;
+      source = b.source ∙ ap (λ (x : Seen). x.program) is;
+      asked = b.asked ∙ ap (λ (x : Seen). x.query) is;
       nodes_are = b.nodes ∙ ap nodes_of is ∙ nodes-unbegun s a nodes;
       budget = b.budget;
       answers = b.answers;

@@ -4,7 +4,7 @@ use Rattle.cb_model.specs.Derivation.{Branch, Query}
 use Rattle.cb_model.specs.Program.{Program}
 use Rattle.cb_dd.specs.declared.Stop.{Stop}
 use Rattle.cb_branch.specs.Running.{Seen, fulls_of, nodes_of, program_of, query_of}
-use Rattle.cb_branch.proofs.Laws.{fulls-keep, nodes-keep, program-keeps, query-keeps}
+use Rattle.cb_branch.proofs.Laws.{asked-keeps, fulls-keep, nodes-keep, program-keeps, query-keeps, source-keeps}
 use Rattle.cb_solve.specs.declared.Machine.{Machine}
 use Rattle.cb_solve.specs.declared.Stepped.{Stepped}
 use Rattle.cb_solve.specs.declared.Stepped.TheVariants as stepped
@@ -26,6 +26,8 @@ turned-turn m n (Ok r) h = record {
   answers = let a = h.answers in let q = h.quiet in omega arith;
   program = h.program;
   query = h.query;
+  source = h.source;
+  asked = h.asked;
   nodes = h.nodes;
   fulls = h.fulls;
   used = h.used;
@@ -40,6 +42,8 @@ turned-ran m o n (Ok r) s h = record {
   answers = let a = h.answers in let q = h.quiet in let b = s.answers in omega arith;
   program = h.program ∙ program-keeps m.branch o.branch s.keeps;
   query = h.query ∙ query-keeps m.branch o.branch s.keeps;
+  source = h.source ∙ source-keeps m.branch o.branch s.keeps;
+  asked = h.asked ∙ asked-keeps m.branch o.branch s.keeps;
   nodes = h.nodes ∙ nodes-keep m.branch o.branch s.keeps;
   fulls = let a = h.fulls in let b = fulls-keep m.branch o.branch s.keeps in omega arith;
   used = let u = h.used in let v = s.used in omega arith;
@@ -62,6 +66,8 @@ turned-answer m n h = record {
   answers = h.1.0;
   program = program-keeps m.branch n.branch h.1.1.1;
   query = query-keeps m.branch n.branch h.1.1.1;
+  source = source-keeps m.branch n.branch h.1.1.1;
+  asked = asked-keeps m.branch n.branch h.1.1.1;
   nodes = nodes-keep m.branch n.branch h.1.1.1;
   fulls = fulls-keep m.branch n.branch h.1.1.1;
   used = let u = h.1.1.0 in omega arith;
@@ -74,6 +80,8 @@ turned-stopped m n r s q no_next = record {
   answers = let a = s.answers in omega arith;
   program = program-keeps m.branch n.branch s.keeps;
   query = query-keeps m.branch n.branch s.keeps;
+  source = source-keeps m.branch n.branch s.keeps;
+  asked = asked-keeps m.branch n.branch s.keeps;
   nodes = nodes-keep m.branch n.branch s.keeps;
   fulls = fulls-keep m.branch n.branch s.keeps;
   used = let u = s.used in omega arith;
@@ -83,7 +91,7 @@ turned-stopped m n r s q no_next = record {
 -- ---- the loop
 
 pub onward-start : (m : Machine) → Stands (program_of m.branch) (query_of m.branch) m → Onward m m
-onward-start m h = record { stands = h; budget = refl; answers = refl; program = refl; query = refl; nodes = refl; fulls = omega arith; used = omega arith }
+onward-start m h = record { stands = h; budget = refl; answers = refl; program = refl; query = refl; source = refl; asked = refl; nodes = refl; fulls = omega arith; used = omega arith }
 
 module _ (old m : Machine) (h : Onward old m) where
   pub onward-stands : Stands (program_of m.branch) (query_of m.branch) m
@@ -98,6 +106,8 @@ module _ (old m : Machine) (h : Onward old m) where
     answers = let a = t.answers in let b = h.answers in omega arith;
     program = t.program ∙ h.program;
     query = t.query ∙ h.query;
+    source = t.source ∙ h.source;
+    asked = t.asked ∙ h.asked;
     nodes = t.nodes ∙ h.nodes;
     fulls = let a = t.fulls in let b = h.fulls in omega arith;
     used = let u = t.used in let v = h.used in omega arith;
@@ -111,6 +121,8 @@ module _ (old m : Machine) (h : Onward old m) where
     answers = let x = t.answers in let b = h.answers in let z = quiet r next in omega arith;
     program = t.program ∙ h.program;
     query = t.query ∙ h.query;
+    source = t.source ∙ h.source;
+    asked = t.asked ∙ h.asked;
     nodes = t.nodes ∙ h.nodes;
     fulls = let a = t.fulls in let b = h.fulls in omega arith;
     used = let u = t.used in let v = h.used in omega arith;
@@ -131,7 +143,7 @@ module _ (old m : Machine) (h : Onward old m) where
       stand stepped.End k a = absurd k
 
   pub onward-few : (n : Machine) → IsFew m n → IsFew old n
-  onward-few n f = few-from old m n (record { program = h.program; query = h.query; budget = h.budget; answers = h.answers; nodes = h.nodes; fulls = h.fulls }) f
+  onward-few n f = few-from old m n (record { program = h.program; query = h.query; source = h.source; asked = h.asked; budget = h.budget; answers = h.answers; nodes = h.nodes; fulls = h.fulls }) f
 
   pub onward-smaller : (n : Machine) (r : Stepped) → IsNext r → IsTurned m n r → n.budget - n.used < m.budget - m.used
   onward-smaller n r next t = let c = t.counts next in let l = c.0 in let k = c.1 in let b = t.budget in omega arith

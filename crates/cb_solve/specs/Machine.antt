@@ -234,6 +234,8 @@ pub record IsTurn (m n : Machine) (r : Stepped) : Type 0 where
   pub answers : n.answers ≡ m.answers
   pub program : program_of n.branch ≡ program_of m.branch
   pub query : query_of n.branch ≡ query_of m.branch
+  pub source : n.branch.program ≡ m.branch.program
+  pub asked : n.branch.query ≡ m.branch.query
   pub nodes : nodes_of n.branch ≡ nodes_of m.branch
   pub fulls : fulls_of m.branch ≤ fulls_of n.branch
   pub counts : IsNext r → (n.used ≡ m.used + 1) × (n.used ≤ m.budget)
@@ -256,6 +258,8 @@ pub record IsTurned (m n : Machine) (r : Stepped) : Type 0 where
   pub answers : n.answers ≡ m.answers + answers_of r
   pub program : program_of n.branch ≡ program_of m.branch
   pub query : query_of n.branch ≡ query_of m.branch
+  pub source : n.branch.program ≡ m.branch.program
+  pub asked : n.branch.query ≡ m.branch.query
   pub nodes : nodes_of n.branch ≡ nodes_of m.branch
   pub fulls : fulls_of m.branch ≤ fulls_of n.branch
   pub used : m.used ≤ n.used
@@ -268,6 +272,8 @@ pub record Onward (old m : Machine) : Type 0 where
   pub answers : m.answers ≡ old.answers
   pub program : program_of m.branch ≡ program_of old.branch
   pub query : query_of m.branch ≡ query_of old.branch
+  pub source : m.branch.program ≡ old.branch.program
+  pub asked : m.branch.query ≡ old.branch.query
   pub nodes : nodes_of m.branch ≡ nodes_of old.branch
   pub fulls : fulls_of old.branch ≤ fulls_of m.branch
   pub used : old.used ≤ m.used

@@ -75,6 +75,8 @@ pub record AnswerFollows (old new : Run) : Type 0 where
   pub nodes : nodes_of new.state ≡ nodes_of old.state
   pub program : program_of new.state ≡ program_of old.state
   pub query : query_of new.state ≡ query_of old.state
+  pub source : new.state.program ≡ old.state.program
+  pub asked : new.state.query ≡ old.state.query
   pub budget : new.budget ≡ old.budget
 
 -- the derivation has no further answer, and ends
@@ -125,6 +127,8 @@ pub record IsBegun (old new : Machine) (over : Option Event) : Type 0 where
   pub answers : new.answers ≡ 0
   pub program : program_of new.branch ≡ program_of old.branch
   pub query : query_of new.branch ≡ query_of old.branch
+  pub source : new.branch.program ≡ old.branch.program
+  pub asked : new.branch.query ≡ old.branch.query
   pub nodes : nodes_of new.branch ≡ nodes_of old.branch
   pub begins : BeginsWith old.branch new.branch old.budget over
   pub stands : OnNone over (Stands (program_of new.branch) (query_of new.branch) new)
@@ -133,6 +137,8 @@ pub record IsBegun (old new : Machine) (over : Option Event) : Type 0 where
 pub record Begins (s : Source) (a : Asked) (resolutions nodes : ℕ) (r : Run) : Type 0 where
   pub program : program_of r.state ≡ asked_program s a []
   pub query : query_of r.state ≡ asked_query a
+  pub source : r.state.program ≡ s
+  pub asked : r.state.query ≡ a
   pub nodes_are : nodes_of r.state ≡ nodes
   pub budget : r.budget ≡ resolutions
   pub answers : r.answers ≡ 0

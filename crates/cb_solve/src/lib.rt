@@ -11,13 +11,15 @@ ghost use Rattle.cb_model.specs.Derivation as derivation;
 ghost use Rattle.cb_branch.specs.Running.{HasRoom, IsBranch, IsPrinted, fulls_of, program_of, query_of, work_of};
 ghost use Rattle.cb_branch.specs.Scope.{IsRunnable};
 ghost use Rattle.cb_solve.specs.Run.{AnswerFollows, Begins, BeginsWith, EndFollows, IsBegun, IsHeard, IsRun, IsUnbegun, NodesFollow, StopFollows, last_of};
-ghost use Rattle.cb_solve.specs.Lending.{LoanKeepsTheRun};
+ghost use Rattle.std.specs.Borrow.{sem};
+ghost use Rattle.cb_solve.specs.Lending.{LendsState, LoanKeepsTheRun};
 ghost use Rattle.cb_solve.specs.Machine.{AtStep, Chooses, Has, HasRoomFor, IsEvent, IsFew, IsHeardOf, IsNext, IsRan, IsSame, IsStep, IsTurn, IsTurned, LeavesNext, MayLeave, OnlyChoices, Resolves, Runs, Stands, TriesAt, budget_in};
 
 use cb_branch::{Call, First, Mark, Running};
 use cb_dd::Stop;
 use cb_heap::Ref;
 use cb_sorts::{Program, Query};
+use cb_unify::State;
 use std::alloc::{AllocError, Global};
 use std::marker::Model;
 
@@ -452,6 +454,7 @@ impl<'p, 's, 'q> Engine<'p, 's, 'q> {
             }
         }
     }
+
     /// After an answer, the cell of the variable that is printed in this place, counted from 0. `None` past the last.
     pub fn variable(&self, place: u32) -> Option<Ref>
         requires { (b : Branch) × IsBranch self.now.state b }
@@ -459,6 +462,16 @@ impl<'p, 's, 'q> Engine<'p, 's, 'q> {
         ensures none { IfNone result (slice_get (printed_from 0 self.now.state.query.variables) place ≡ None) }
     {
         self.machine.branch.variable(place)
+    }
+
+    /// The terms: after an answer, those of its branch. Who borrows them leaves them as they were, but for a count of
+    /// refusals for nodes that has not fallen, as an `undo` to the moment of the loan does: then the run goes on
+    /// (`loan_keeps_the_run`).
+    pub fn state(&mut self) -> &mut State
+        ensures* writes_back { sem 𝓛 (LendsState self.entry result) }
+        ensures value { result.now ≡ self.old.state.state }
+    {
+        &mut self.machine.branch.state
     }
 }
 

@@ -2,7 +2,7 @@ use Rattle.std.proofs.Common.{◌≡◌, ◌+◌, List, [], refl, ap, Ok, Err, s
 use Rattle.std.proofs.lemmas.Grind.{common_steps}
 use Rattle.std.proofs.lemmas.List.{nil_from_length}
 use Rattle.cb_branch.specs.Running.{Seen, program_of, query_of}
-use Rattle.cb_solve.proofs.Resolving.{popped, retry-ends, retry-stops, retry-resolves, same-program, same-query, same-nodes, same-fulls, back-run, leave-back, few-from, turn-at, turn-of, there-back, is-back}
+use Rattle.cb_solve.proofs.Resolving.{popped, retry-ends, retry-stops, retry-resolves, same-asked, same-program, same-query, same-source, same-nodes, same-fulls, back-run, leave-back, few-from, turn-at, turn-of, there-back, is-back}
 use Rattle.cb_solve.proofs.Clauses.{got-below}
 use Rattle.cb_solve.proofs.retry.Goals as goal
 
@@ -30,6 +30,8 @@ returns-in-Some-passed-clause-turn c =
       answers = refl;
       program = same-program m c.pop.new.self top c.undo.new.self h pd back;
       query = same-query m c.pop.new.self top c.undo.new.self h pd back;
+      source = same-source m c.pop.new.self top c.undo.new.self h pd back;
+      asked = same-asked m c.pop.new.self top c.undo.new.self h pd back;
       nodes = same-nodes m c.pop.new.self top c.undo.new.self h pd back;
       fulls = let e = same-fulls m c.pop.new.self top c.undo.new.self h pd back in omega arith;
       counts = λ next. absurd next;
