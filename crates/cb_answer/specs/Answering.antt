@@ -45,10 +45,10 @@ LeavesAreRight = (p : Program) (names : Names) (b : Branch) (s : Seen) (roots : 
     AreGen p b (printed_terms names b) (shape_of ps) (spread_all p.constants first gens)
 
 -- the same names, but for the numbers of the printed variables
-pub record AreNamed (ns names : Names) : Type 0 where
-  pub names : ns.names ≡ names.names
-  pub constants : ns.constants ≡ names.constants
-  pub printed : map (λ v. v.1) ns.printed ≡ map (λ v. v.1) names.printed
+pub record AreNamed (ns ms : Names) : Type 0 where
+  pub names : ns.names ≡ ms.names
+  pub constants : ns.constants ≡ ms.constants
+  pub printed : map (λ v. v.1) ns.printed ≡ map (λ v. v.1) ms.printed
 
 -- the line of the cells' terms, by the same names, is the line of the branch
 abbrev pub LineIsRight : Type 0
