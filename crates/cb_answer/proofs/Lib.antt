@@ -4,3 +4,7 @@ pub mod Numbered
 mod Standing
 mod Forms
 mod Whole
+pub mod Points
+pub mod Shaped
+pub mod Named
+pub mod Lines
