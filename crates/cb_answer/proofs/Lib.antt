@@ -8,3 +8,8 @@ pub mod Points
 pub mod Shaped
 pub mod Named
 pub mod Lines
+mod Spread
+mod Within
+mod Found
+mod Gens
+mod Answered
