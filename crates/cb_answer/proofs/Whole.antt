@@ -13,7 +13,7 @@ use Rattle.cb_heap.specs.Heap.{Terms}
 use Rattle.cb_unify.specs.State.{Seen}
 use Rattle.cb_answer.specs.declared.Item.{Item}
 use Rattle.cb_answer.specs.Lines.{line_names, spread_all}
-use Rattle.cb_answer.specs.Writing.{IsLineFor, IsLineOf, IsShownFor, IsTellable, IsText, IsToldFor, roots_of}
+use Rattle.cb_answer.specs.Writing.{IsLineOfItems, IsLineOf, IsShownFor, IsTellable, IsText, IsToldFor, roots_of}
 use Rattle.cb_answer.proofs.Forms.{terms}
 
 one-less : (xs : Text) → suc (length (xs ++ 10 ∷ []) - 1) ≡ length (xs ++ 10 ∷ [])
@@ -31,7 +31,7 @@ but-last (x ∷ xs) =
 module _ (ns cs : List Text) (s : Seen) (items : List Item) where
   -- a text within the limits is that of one line, whatever terms the cells are
   pub told-text : (text : Text) → ((ps : Plains) → AreRoots s.heap.cells (roots_of items) ps → is_wide (shape_of ps) ≡ false) → (ps : Plains) → AreRoots s.heap.cells (roots_of items) ps →
-      IsToldFor ns cs s items text → IsText (IsLineFor ns cs s items) text
+      IsToldFor ns cs s items text → IsText (IsLineOfItems ns cs s items) text
   told-text text narrow ps r told =
       let line = take (length text - 1) text in
       record {
@@ -51,7 +51,7 @@ module _ (ns cs : List Text) (s : Seen) (items : List Item) where
 
   -- past the limits it is `(wide)`
   pub wide-text : (text : Text) → ((ps : Plains) → AreRoots s.heap.cells (roots_of items) ps → is_wide (shape_of ps) ≡ true) → text ≡ lines_text (codes "(wide)" ∷ []) →
-      IsText (IsLineFor ns cs s items) text
+      IsText (IsLineOfItems ns cs s items) text
   wide-text text wide e = record { line = codes "(wide)"; is = λ qs q. IsLineOf.wide (wide qs q) refl; whole = e }
 
 pub if-ok : {A E : Type 0} (r : Result A E) (P Q : A → Type 0) → ((x : A) → P x → Q x) → IfOk r P → IfOk r Q

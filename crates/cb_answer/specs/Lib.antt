@@ -1,2 +1,4 @@
 pub mod Lines
 pub mod Writing
+pub mod Answering
+pub mod Answered

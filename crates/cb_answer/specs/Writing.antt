@@ -53,11 +53,6 @@ pub data IsLineOf (c : ℕ) (names : Names) (s : Booleans) (ps : Plains) : Text 
   told : {line : Text} (first : ℕ) (gens : List Function) → is_wide (shape_of ps) ≡ false → c ≤ first → length gens ≡ length (all_leaves ps) →
       IsAnswer s (leaf_slots ps) first gens → line ≡ line_text c names (shape_of ps) (spread_all c first gens) → IsLineOf c names s ps line
 
--- the line of the items, whatever terms their cells are
-abbrev pub IsLineFor : List Text → List Text → Seen → List Item → Text → Type 0
-IsLineFor names constants s items line =
-    (ps : Plains) → AreRoots s.heap.cells (roots_of items) ps → IsLineOf s.store.constants (line_names names constants items) s.store ps line
-
 -- such a line was written, with its end
 pub record WroteLine (Is : Text → Type 0) (before now : Option Text) : Type 0 where
   pub line : Text
@@ -84,6 +79,11 @@ pub record IsText (Is : Text → Type 0) (text : Text) : Type 0 where
   pub line : Text
   pub is : Is line
   pub whole : text ≡ lines_text (line ∷ [])
+
+-- the line of the items, whatever terms their cells are
+abbrev pub IsLineOfItems : List Text → List Text → Seen → List Item → Text → Type 0
+IsLineOfItems names constants s items line =
+    (ps : Plains) → AreRoots s.heap.cells (roots_of items) ps → IsLineOf s.store.constants (line_names names constants items) s.store ps line
 
 -- of the terms of the items' cells an answer shows this
 abbrev pub IsShownFor : Seen → List Item → Printed → Type 0

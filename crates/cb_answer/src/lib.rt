@@ -1,10 +1,12 @@
 //! The line of an answer.
 #![tactic(auto)]
 
+mod laws;
 mod pieces;
 mod telling;
 
 use cb_heap::Ref;
+pub use laws::shape_is_right;
 pub use pieces::{Told, line};
 pub use telling::answer;
 

@@ -5,7 +5,8 @@ ghost use Rattle.cb_model.specs.Outside.{Rose};
 ghost use Rattle.cb_model.specs.Text.{lines_text};
 ghost use Rattle.cb_unify.specs.Moments.{KeepsMoments};
 ghost use Rattle.cb_unify.specs.State.{IsAsBefore, IsState};
-ghost use Rattle.cb_answer.specs.Writing.{IsLineFor, IsShownFor, IsTellable, IsText, IsToldFor, WantsNodes, WroteFront, WroteLine, item_cell, roots_of, slots_of};
+ghost use Rattle.cb_answer.specs.Answered.{IsLineFor};
+ghost use Rattle.cb_answer.specs.Writing.{IsShownFor, IsTellable, IsText, IsToldFor, WantsNodes, WroteFront, WroteLine, item_cell, roots_of, slots_of};
 
 use crate::{Item, Told, line};
 use cb_dd::Stop;

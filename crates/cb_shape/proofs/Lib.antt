@@ -7,4 +7,5 @@ pub mod Resting
 pub mod Stepping
 pub mod Wide
 pub mod Standing
+pub mod Valued
 pub mod Texts

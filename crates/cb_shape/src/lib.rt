@@ -5,7 +5,7 @@
 ghost use Rattle.std.specs.Prelude.{IfOk};
 ghost use Rattle.cb_laws.proofs.OpenTrees.{Plains};
 ghost use Rattle.cb_heap.specs.Heap.{IsHeap};
-ghost use Rattle.cb_shape.specs.Laws.{CellsAreTerms};
+ghost use Rattle.cb_shape.specs.Laws.{CellsAreTerms, TermsHaveValues};
 ghost use Rattle.cb_shape.specs.Shapes.{ShapeFromPoints};
 ghost use Rattle.cb_shape.specs.Terms.{AreRoots};
 ghost use Rattle.cb_shape.specs.Text.{PiecesAreTheLine};
@@ -80,6 +80,11 @@ pub fn shape_from_points()
 /// In a heap without cycles, whose cells fit a table of sorts, all cells are terms.
 pub fn cells_are_terms()
     ensures { CellsAreTerms }
+{}
+
+/// At values that the cells can have together, each cell has the value of its term.
+pub fn terms_have_values()
+    ensures { TermsHaveValues }
 {}
 
 /// The pieces of an answer, one after another, are the line of its shape.
