@@ -17,12 +17,8 @@ use Rattle.cb_branch.specs.Running.{Seen, IsBranch, GoesOn, WantsNodes, nodes_of
 use Rattle.cb_branch.proofs.Laws.{keeps-refl}
 use Rattle.cb_solve.specs.declared.Budget.{Budget}
 use Rattle.cb_solve.specs.declared.Machine.{Machine}
-use Rattle.cb_solve.specs.Machine.{Has, RunsAt, TriesAt, StopsAt, IsFew, IsSame, budget_in}
+use Rattle.cb_solve.specs.Machine.{Has, RunsAt, TriesAt, StopsAt, IsFew, IsSame, Passes, budget_in}
 use Rattle.cb_solve.proofs.Stacks.{Addition, equal-addition, stops-at, none-passed, add-goes, add-fails, few-adding}
-
--- what is said of the budgets: x is the budget that an addition would pass
-abbrev pub Passes : Machine → ℕ → ℕ → Option Budget → Type 0
-Passes m r more x = (b c : Branch) → IsBranch m.branch b → bools c.sorts ≡ bools b.sorts + more → c.steps ≡ b.steps + 1 → x ≡ option_map budget_in (passed (program_of m.branch) m.budget (m.used + r) c)
 
 pub same-self : (m : Machine) → IsSame m m
 same-self m = record { budget = refl; answers = refl; used = refl; keeps = keeps-refl m.branch }

@@ -8,12 +8,8 @@ use Rattle.cb_solve.specs.declared.Machine.{Machine}
 use Rattle.cb_solve.specs.declared.Stepped.{Stepped}
 use Rattle.cb_solve.specs.declared.Stepped.TheVariants as stepped
 use Rattle.cb_solve.specs.Machine.{AtStep, AnswersAt, IsTurned}
-use Rattle.cb_solve.specs.Run.{Run, AnswerFollows, IsHeard}
+use Rattle.cb_solve.specs.Run.{Run, AnswerFollows, IsHeard, run_of}
 use Rattle.cb_solve.proofs.Runs.{printed-append}
-
--- the view of a run
-abbrev pub run_of : Machine → Option Event → Bool → Run
-run_of m o s = record { state = m.branch; budget = m.budget; answers = m.answers; over = o; starved = s; rest = record { choices = m.choices.items; used = m.used; running = m.running } }
 
 follows : (m n : Machine) (o o' : Option Event) (s s' : Bool) (b : Branch) → AnswersAt (program_of m.branch) (query_of m.branch) n b → IsTurned m n stepped.Answer → AnswerFollows (run_of m o s) (run_of n o' s')
 follows m n o o' s s' b h t =

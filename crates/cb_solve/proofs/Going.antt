@@ -13,7 +13,7 @@ use Rattle.cb_solve.specs.declared.Stepped.TheVariants as stepped
 use Rattle.cb_solve.specs.Machine.{AtStep, Counted, IsTurned, Stacked, Stands, TriesAt}
 use Rattle.cb_solve.specs.Run.{IsEngine, IsHeard, IsRun, Run, last_of, machine_with}
 use Rattle.cb_solve.specs.Lending.{LoanKeepsTheRun}
-use Rattle.cb_solve.proofs.Answering.{run_of}
+use Rattle.cb_solve.specs.Run.{run_of}
 use Rattle.cb_solve.proofs.Stacks.{stacked-later}
 
 pub none-of : (o : Option Event) → ((x : Event) → o ≡ Some x → ⊥) → o ≡ None

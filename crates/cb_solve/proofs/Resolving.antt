@@ -20,7 +20,7 @@ use Rattle.cb_solve.specs.Machine.{Stacked, none, more, Counted, RunsAt, TriesAt
 use Rattle.cb_solve.proofs.Runs.{so-far-step, printed-append}
 use Rattle.cb_solve.proofs.Stacks.{Addition, try-addition, stacked-later, none-passed, stops-at}
 use Rattle.cb_solve.proofs.Clauses.{next-there}
-use Rattle.cb_solve.proofs.Adds.{Passes}
+use Rattle.cb_solve.specs.Machine.{Passes}
 use Rattle.cb_solve.specs.declared.Stepped.TheVariants as stepped
 use Rattle.cb_dd.specs.declared.Stop.{Stop}
 use Rattle.cb_solve.specs.declared.Stepped.{Stepped}

@@ -10,7 +10,7 @@ use Rattle.cb_solve.specs.declared.Choice.{Choice}
 use Rattle.cb_solve.specs.declared.Machine.{Machine}
 use Rattle.cb_solve.specs.Machine.{FewAt, HasRoomFor, Stands, Stacked, none, RunsAt}
 use Rattle.cb_solve.specs.Run.{Begins, BeginsWith, IsBegun, IsEngine, IsRun, IsUnbegun, OnNone}
-use Rattle.cb_solve.proofs.Answering.{run_of}
+use Rattle.cb_solve.specs.Run.{run_of}
 use Rattle.cb_solve.specs.declared.Event.{Event}
 use Rattle.std.specs.declared.vec.Vec.{Vec}
 use Rattle.cb_sorts.specs.Source.{Source}
