@@ -1,20 +1,16 @@
 -- What the goals of a branch make of its terms.
-use Rattle.std.specs.Prelude.{◌≡◌, ◌≢◌, ◌-◌, ◌^◌, Bool, false, Result, Ok, Err, ℕ, ◌+◌, ◌<◌, ◌≤◌, true, List, [], ◌∷◌, ◌++◌, length, map, get_or, Option, Some, slice_get, IfOk, IfSome, IfNone}
+use Rattle.std.specs.Prelude.{◌≡◌, Result, ℕ, true, List, [], ◌∷◌, ◌++◌, length, map, Option, Some, slice_get, IfOk, IfSome, IfNone}
 use Rattle.cb_model.specs.declared.Sort.{Sort}
 use Rattle.cb_model.specs.declared.Sort.TheVariants as sort
 use Rattle.cb_model.specs.declared.Tree.{Tree}
 use Rattle.cb_model.specs.declared.Tree.TheVariants as tree
 use Rattle.cb_model.specs.Program.{bools, shift_tree}
 use Rattle.cb_model.specs.Sorted.{tree_fits}
-use Rattle.cb_model.specs.Outside.{Rose}
-use Rattle.cb_dd.specs.declared.Stop.{Stop}
-use Rattle.cb_dd.specs.declared.Stop.TheVariants.{Nodes}
 use Rattle.cb_model.specs.Values.{Sorts, World, tree_in_scope}
 use Rattle.cb_model.specs.Equations.{Item, Pair, Solvable, Refuted}
 use Rattle.cb_model.specs.Derivation.{head_item}
-use Rattle.cb_unify.specs.State.{Seen, FitsTable, HasNone, IsSolved, IsState}
-use Rattle.cb_unify.specs.Solve.{OnlyRewritten}
-use Rattle.cb_unify.specs.Growth.{AddsVariables, IsBuilt, IsExtended, IsGrown, IsOpened, IsSortedFrame}
+use Rattle.cb_unify.specs.State.{Seen, FitsTable, IsState}
+use Rattle.cb_unify.specs.Growth.{IsBuilt, IsExtended, IsGrown, IsSortedFrame}
 use Rattle.cb_items.specs.Items.{AddsPair, RefutesPair, StaysBut}
 use Rattle.cb_items.specs.Standing.{Stands, IsFrame, IsVals}
 use Rattle.cb_items.specs.Shifted.{IsShifted}

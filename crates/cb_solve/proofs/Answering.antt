@@ -1,7 +1,7 @@
 -- The answers of a run.
-use Rattle.std.proofs.Common.{◌≡◌, ℕ, ◌+◌, Bool, List, [], ◌∷◌, ◌++◌, length, Option, Some, None, refl, sym, ap, subst, ◌∙◌, arith, length-append}
+use Rattle.std.proofs.Common.{◌≡◌, ℕ, ◌+◌, Bool, List, [], ◌∷◌, length, Option, ap, subst, ◌∙◌, arith, length-append}
 use Rattle.cb_model.specs.Derivation.{Branch, Note, Printed, SoFar, printed_of}
-use Rattle.cb_branch.specs.Running.{Seen, program_of, query_of}
+use Rattle.cb_branch.specs.Running.{program_of, query_of}
 use Rattle.cb_solve.specs.declared.Event.{Event}
 use Rattle.cb_solve.specs.declared.Event.TheVariants as event
 use Rattle.cb_solve.specs.declared.Machine.{Machine}

@@ -1,8 +1,6 @@
 -- The stack of the derivation as the machine keeps it: choices with marks, and on them the branch that runs.
-use Rattle.std.specs.Prelude.{◌≡◌, ℕ, ◌+◌, ◌<◌, ◌≤◌, Bool, true, false, ◌⊎◌, List, [], ◌∷◌, ◌++◌, length, Option, Some, None, slice_get}
+use Rattle.std.specs.Prelude.{◌≡◌, ℕ, ◌+◌, ◌<◌, ◌≤◌, true, false, ◌⊎◌, List, [], ◌∷◌, ◌++◌, length, Option, Some, None, slice_get}
 use Rattle.cb_model.specs.declared.Tree.{Tree}
-use Rattle.cb_model.specs.declared.Goal.{Goal}
-use Rattle.cb_model.specs.declared.Goal.TheVariants as goal
 use Rattle.cb_model.specs.declared.Clause.{Clause}
 use Rattle.std.specs.Option.{option_map}
 use Rattle.cb_model.specs.Outside.{Rose}
@@ -10,7 +8,7 @@ use Rattle.cb_model.specs.Program.{Program, bools}
 use Rattle.cb_model.specs.Derivation.{resolved, try_next, Becomes, Branch, Entry, Run, Try, Query, Note, Printed, SoFar, Plain, Moves, Adds, Whole, printed_of, stop_of}
 use Rattle.cb_model.specs.Derivation as derivation
 use Rattle.cb_branch.specs.declared.First.{First}
-use Rattle.cb_branch.specs.Running.{Seen, IsBranch, IsFirst, behind, IsCall, Keeps, TooFew, HasRoom, fulls_of, moment_of, nodes_of, program_of, query_of, work_of}
+use Rattle.cb_branch.specs.Running.{Seen, IsBranch, IsFirst, IsCall, Keeps, TooFew, HasRoom, fulls_of, moment_of, nodes_of, program_of, query_of, work_of}
 use Rattle.cb_solve.specs.declared.Budget.{Budget}
 use Rattle.cb_solve.specs.declared.Budget.TheVariants as budget
 use Rattle.cb_solve.specs.declared.Choice.{Choice}

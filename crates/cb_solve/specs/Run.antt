@@ -1,5 +1,5 @@
 -- The run of a query as contracts see it.
-use Rattle.std.specs.Prelude.{◌≡◌, ℕ, ◌+◌, ◌⊎◌, Bool, true, false, List, [], ◌∷◌, ◌++◌, length, Option, Some, None, Result, Ok}
+use Rattle.std.specs.Prelude.{◌≡◌, ℕ, ◌+◌, Bool, true, false, List, [], ◌∷◌, ◌++◌, length, Option, Some, None, Result, Ok}
 use Rattle.cb_model.specs.Derivation.{Branch, Entry, Note, Printed, SoFar, Plain, Whole, printed_of}
 use Rattle.cb_model.specs.Derivation as derivation
 use Rattle.cb_model.specs.Outside.{Rose}
