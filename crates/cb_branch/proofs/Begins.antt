@@ -1,12 +1,12 @@
 -- The first branch of a query.
-use Rattle.std.proofs.Common.{◌≡◌, ◌↔◌, ℕ, zero, suc, ◌+◌, ◌-◌, ◌<◌, ◌≤◌, Bool, true, false, List, [], ◌∷◌, ◌++◌, length, map, Some, pos, refl, sym, ap, subst, ◌∙◌, ◌^◌, append-nil, arith, zero-add}
+use Rattle.std.proofs.Common.{◌≡◌, ℕ, suc, ◌+◌, ◌-◌, ◌<◌, ◌≤◌, Bool, true, false, List, [], ◌∷◌, ◌++◌, length, Some, pos, refl, sym, ap, subst, ◌∙◌, ◌^◌, append-nil, arith, zero-add}
 use Rattle.std.specs.Prelude.{if◌then◌else◌, slice_get}
 use Rattle.cb_laws.proofs.Tables.{zero_fits}
 use Rattle.cb_model.specs.declared.Sort.{Sort}
 use Rattle.cb_model.specs.declared.Tree.{Tree}
 use Rattle.cb_model.specs.declared.Goal.{Goal}
 use Rattle.cb_model.specs.declared.Goal.TheVariants as goal
-use Rattle.cb_model.specs.Bits.{Bits, Each}
+use Rattle.cb_model.specs.Bits.{Each}
 use Rattle.cb_model.specs.Values.{Bit, Int, Sorts, Valuation, World, tree_value}
 use Rattle.cb_model.specs.Program.{Program, bools}
 use Rattle.cb_model.specs.Equations.{Solvable}
@@ -21,7 +21,6 @@ use Rattle.cb_goals.specs.Chain.{goals_at}
 use Rattle.cb_goals.proofs.Lists.{goals-empty}
 use Rattle.cb_elim.specs.Store.{view_of}
 use Rattle.cb_heap.proofs.Steps.{no_some}
-use Rattle.cb_heap.specs.Reading.{Reading}
 use Rattle.cb_unify.specs.State as state
 use Rattle.cb_unify.specs.State.{FitsTable, IsState, no_state}
 use Rattle.cb_unify.proofs.Back.{empty-state}

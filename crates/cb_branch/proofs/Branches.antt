@@ -1,19 +1,15 @@
 -- A branch that goes on: what its goals stand for, and what it is after an addition.
-use Rattle.std.proofs.Common.{◌≡◌, ◌⊎◌, inl, inr, ℕ, zero, suc, ◌+◌, ◌-◌, ◌<◌, ◌≤◌, Bool, true, false, List, [], ◌∷◌, ◌++◌, length, map, take, Option, Some, None, refl, sym, ap, subst, ◌∙◌, arith}
+use Rattle.std.proofs.Common.{◌≡◌, inl, inr, ℕ, suc, ◌+◌, ◌≤◌, List, [], ◌∷◌, ◌++◌, length, map, Some, refl, sym, ap, subst, ◌∙◌, arith}
 use Rattle.std.specs.Prelude.{slice_get}
 use Rattle.cb_model.specs.declared.Sort.{Sort}
 use Rattle.cb_model.specs.declared.Tree.{Tree}
-use Rattle.cb_model.specs.declared.Tree.TheVariants as tree
 use Rattle.cb_model.specs.declared.Goal.{Goal}
 use Rattle.cb_model.specs.declared.Goal.TheVariants as goal
 use Rattle.cb_model.specs.declared.Clause.{Clause}
-use Rattle.cb_model.specs.Bits.{Bits, Each, Parts, none}
+use Rattle.cb_model.specs.Bits.{Each, Parts, none}
 use Rattle.cb_model.specs.Program.{Program, bools, shift_goal, shift_tree}
-use Rattle.cb_model.specs.Equations.{Item, Solvable}
-use Rattle.cb_model.specs.Values.{World}
+use Rattle.cb_model.specs.Equations.{Item}
 use Rattle.cb_model.specs.Derivation.{Branch, Waiting, Ready, extended, Woken}
-use Rattle.cb_sorts.specs.Source.{Source}
-use Rattle.cb_sorts.specs.Asked.{Asked}
 use Rattle.cb_sorts.specs.OverFile.{asked_program}
 use Rattle.cb_goals.specs.declared.Link.{Link}
 use Rattle.cb_goals.specs.declared.Pending.{Pending}
@@ -25,10 +21,10 @@ use Rattle.cb_unify.specs.Growth.{IsGrown}
 use Rattle.cb_unify.proofs.Opened.{bools-append, get-left, where-is}
 use Rattle.cb_branch.specs.Running.{Seen, Place, IsAt, StandsFor, AreGoals, HasAsked, IsTheBranch, IsBranch, GoesOn, behind}
 use Rattle.cb_items.specs.Shifted.{IsShiftedGoal, AreShifted}
-use Rattle.cb_branch.specs.Scope.{IsGoalFor, IsClauseFor, IsRunnable}
+use Rattle.cb_branch.specs.Scope.{IsGoalFor}
 use Rattle.cb_items.specs.Standing.{IsFrame, IsVals, HasVariables}
 use Rattle.cb_branch.specs.Terms.{Adds}
-use Rattle.cb_items.proofs.Lists.{append-nil, each-at, got-back, got-left, length-append, some-of, got-within, some-one}
+use Rattle.cb_items.proofs.Lists.{append-nil, got-left, length-append, some-of, some-one}
 use Rattle.cb_items.proofs.Bridges.{frame-later}
 use Rattle.cb_items.proofs.Shifts.{shifted-value}
 

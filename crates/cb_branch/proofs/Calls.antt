@@ -1,5 +1,5 @@
 -- What the calls of a branch ask of its parts, and what they leave.
-use Rattle.std.proofs.Common.{◌≡◌, ◌-◌, ◌^◌, ℕ, zero, suc, ◌+◌, ◌<◌, ◌≤◌, Bool, true, false, List, [], ◌∷◌, ◌++◌, length, Option, Some, None, refl, sym, ap, subst, ◌∙◌, arith, append-nil}
+use Rattle.std.proofs.Common.{◌≡◌, ◌^◌, ℕ, zero, suc, ◌+◌, ◌<◌, ◌≤◌, List, [], ◌∷◌, length, Some, refl, sym, ap, subst, ◌∙◌, arith, append-nil}
 use Rattle.std.specs.Prelude.{get_or, slice_get}
 use Rattle.cb_model.specs.declared.Sort.{Sort}
 use Rattle.cb_model.specs.declared.Sort.TheVariants as sort
@@ -9,7 +9,7 @@ use Rattle.cb_model.specs.declared.Goal.{Goal}
 use Rattle.cb_model.specs.declared.Goal.TheVariants as goal
 use Rattle.cb_model.specs.declared.Clause.{Clause}
 use Rattle.cb_model.specs.Values.{Sorts}
-use Rattle.cb_model.specs.Program.{Program, bools}
+use Rattle.cb_model.specs.Program.{bools}
 use Rattle.cb_model.specs.Derivation.{Branch}
 use Rattle.cb_sorts.specs.Source.{Source}
 use Rattle.cb_sorts.specs.Asked.{Asked}
@@ -21,10 +21,8 @@ use Rattle.cb_unify.specs.State.{IsState}
 use Rattle.cb_unify.proofs.Opened.{grown-same}
 use Rattle.cb_unify.proofs.Back.{keeps-none}
 use Rattle.cb_items.specs.Shifted.{IsShiftedGoal}
-use Rattle.cb_items.specs.Standing.{Stands}
 use Rattle.cb_items.proofs.Lists.{got-within, some-one}
 use Rattle.cb_branch.specs.Running.{AreGoals, HasRoom, IsAt, IsBranch, IsCall, IsLater, IsResolvable, IsTheBranch, Keeps, Place, Seen, StandsFor, Starts, behind, program_of, work_of}
-use Rattle.cb_branch.specs.Scope.{IsGoalFor}
 use Rattle.cb_branch.specs.Terms.{IsBuildable, IsHead, Makes}
 use Rattle.cb_branch.proofs.Branches.{asked, behind-stands, goals-none}
 use Rattle.cb_branch.proofs.Takes.{call-behind, call-buildable, call-cell, clause-head, taken-as}

@@ -1,5 +1,5 @@
 -- What holds of any running branch.
-use Rattle.std.proofs.Common.{◌≡◌, ℕ, ◌+◌, ◌<◌, ◌≤◌, ◌++◌, false, List, [], ◌∷◌, length, refl, ap, sym, ◌∙◌, subst, arith, append_assoc}
+use Rattle.std.proofs.Common.{◌≡◌, ℕ, ◌<◌, ◌≤◌, ◌++◌, false, List, [], ◌∷◌, length, refl, ap, sym, ◌∙◌, subst, arith, append_assoc}
 use Rattle.std.specs.Prelude.{Bool, MatchBool}
 use Rattle.std.proofs.lemmas.List.{append-nil}
 use Rattle.cb_model.specs.declared.When.{When}
@@ -19,8 +19,7 @@ use Rattle.cb_model.specs.Equations.{Item}
 use Rattle.cb_goals.specs.declared.Pending.{Pending}
 use Rattle.cb_branch.specs.Scope.{IsGoalFor}
 use Rattle.cb_items.specs.Shifted.{IsShiftedGoal}
-use Rattle.cb_items.specs.Standing.{Stands, HasVariables}
-use Rattle.cb_branch.specs.Running.{AreGoals, IsBranch, IsCall, Keeps, Seen, StandsFor, fulls_of, nodes_of, program_of, query_of, unbegun, with_fulls, work_of}
+use Rattle.cb_branch.specs.Running.{AreGoals, IsBranch, IsCall, Keeps, Seen, fulls_of, nodes_of, program_of, query_of, unbegun, with_fulls, work_of}
 use Rattle.cb_branch.specs.Lending.{left_with}
 use Rattle.cb_branch.specs.Laws.{HasItsValues}
 use Rattle.cb_items.proofs.Bridges.{fulls-grown, fulls-vals, stands-later}

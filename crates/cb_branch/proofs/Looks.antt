@@ -1,10 +1,7 @@
 -- What is read of a branch.
-use Rattle.std.proofs.Common.{◌≡◌, Bool, true, false, ℕ, zero, suc, ◌+◌, ◌<◌, ◌≤◌, List, [], ◌∷◌, ◌++◌, length, Option, Some, None, refl, sym, ap, subst, ◌∙◌, arith}
+use Rattle.std.proofs.Common.{◌≡◌, Bool, true, false, ℕ, zero, suc, ◌+◌, ◌<◌, ◌≤◌, List, [], ◌∷◌, length, Option, Some, sym, ap, subst, ◌∙◌, arith}
 use Rattle.std.specs.Prelude.{drop, slice_get, if◌then◌else◌}
 use Rattle.cb_model.specs.declared.Sort.{Sort}
-use Rattle.cb_model.specs.declared.Tree.{Tree}
-use Rattle.cb_model.specs.declared.Goal.{Goal}
-use Rattle.cb_model.specs.declared.Goal.TheVariants as goal
 use Rattle.cb_model.specs.Text.{Text}
 use Rattle.cb_model.specs.Output.{printed_from, starts_low}
 use Rattle.cb_model.specs.declared.Clause.{Clause}
@@ -13,13 +10,12 @@ use Rattle.cb_model.specs.Derivation.{Branch}
 use Rattle.cb_sorts.specs.Source.{Source}
 use Rattle.cb_sorts.specs.Asked.{Asked}
 use Rattle.cb_goals.specs.declared.Link.{Link}
-use Rattle.cb_goals.specs.Chain.{goals_at}
 use Rattle.cb_unify.specs.State as state
 use Rattle.cb_unify.specs.State.{IsState}
 use Rattle.cb_unify.specs.Moments as moments
 use Rattle.cb_unify.proofs.Back.{moment-now}
-use Rattle.cb_items.proofs.Lists.{got-within, length-append, some-of, some-one}
-use Rattle.cb_branch.specs.Running.{IsBranch, IsPrinted, IsTheBranch, Keeps, Moment, Seen, moment_of, program_of, query_of, unbegun}
+use Rattle.cb_items.proofs.Lists.{length-append, some-of, some-one}
+use Rattle.cb_branch.specs.Running.{IsBranch, IsPrinted, IsTheBranch, Keeps, Moment, Seen, moment_of, program_of, query_of}
 use Rattle.cb_branch.proofs.Methods.{seen}
 
 -- ---- moments

@@ -1,5 +1,5 @@
 -- What the first goal of a branch is, and what taking it comes to.
-use Rattle.std.proofs.Common.{◌≡◌, ℕ, zero, suc, ◌+◌, ◌<◌, ◌≤◌, true, false, List, [], ◌∷◌, ◌++◌, length, map, Option, Some, None, refl, sym, ap, subst, ◌∙◌, arith}
+use Rattle.std.proofs.Common.{◌≡◌, ℕ, ◌+◌, ◌<◌, ◌≤◌, true, List, [], ◌∷◌, ◌++◌, length, map, Some, refl, sym, ap, subst, ◌∙◌, arith}
 use Rattle.std.specs.Prelude.{slice_get}
 use Rattle.cb_laws.proofs.Values.{value-node}
 use Rattle.cb_model.specs.declared.Sort.{Sort}
@@ -9,7 +9,7 @@ use Rattle.cb_model.specs.declared.Tree.TheVariants as tree
 use Rattle.cb_model.specs.declared.Goal.{Goal}
 use Rattle.cb_model.specs.declared.Goal.TheVariants as goal
 use Rattle.cb_model.specs.declared.Clause.{Clause}
-use Rattle.cb_model.specs.Bits.{Bits, Each}
+use Rattle.cb_model.specs.Bits.{Bits}
 use Rattle.cb_model.specs.Values.{Ground, Name, Valuation, World, grounds, tree_in_scope, tree_value}
 use Rattle.cb_model.specs.Program.{Program, bools, shift_goal, shift_tree}
 use Rattle.cb_model.specs.Equations.{Item, Pair, Refuted}
@@ -19,7 +19,6 @@ use Rattle.cb_goals.specs.declared.Pending.{Pending}
 use Rattle.cb_goals.specs.Chain.{body_goals, goals_at}
 use Rattle.cb_unify.specs.State as state
 use Rattle.cb_unify.specs.State.{FitsTable, IsState}
-use Rattle.cb_unify.specs.Growth.{IsSortedFrame}
 use Rattle.cb_branch.specs.declared.First.TheVariants as first
 use Rattle.cb_branch.specs.Running.{AreGoals, GoesOn, IsAt, IsBranch, IsFirst, IsTheBranch, Place, Seen, StandsFor, behind}
 use Rattle.cb_items.specs.Shifted.{AreShifted, IsShifted, IsShiftedGoal, shifted}

@@ -12,5 +12,7 @@ use Rattle.cb_branch.specs.Scope.{IsRunnable}
 
 -- the program of an accepted file and an accepted query over it can be run, where nothing waits
 abbrev pub AcceptedCanRun : Type 0
-AcceptedCanRun = (file : Text) (l : Loaded) (s : Source) (gs : List FormGoal) (a : Asked) → IsLoaded file l → l.declared ≡ s.declared → Loads l.clauses s → length gs < 2 ^ 32 →
+AcceptedCanRun =
+    (file : Text) (l : Loaded) (s : Source) (gs : List FormGoal) (a : Asked) → IsLoaded file l →
+    l.declared ≡ s.declared → Loads l.clauses s → length gs < 2 ^ 32 →
     Asks s.declared (heads l.clauses) s.names (module_names l.clauses) gs a → NothingWaits s a → IsRunnable s a

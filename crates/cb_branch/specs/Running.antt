@@ -10,8 +10,8 @@ use Rattle.cb_model.specs.Outside.{Rose}
 use Rattle.cb_model.specs.Output.{printed_from}
 use Rattle.cb_model.specs.Text.{Text}
 use Rattle.cb_model.specs.Program.{Program, bools}
-use Rattle.cb_model.specs.Equations.{Solvable}
-use Rattle.cb_model.specs.Derivation.{Branch, Query, Woken}
+use Rattle.cb_model.specs.Equations.{Pair, Refuted, Solvable}
+use Rattle.cb_model.specs.Derivation.{Branch, Query, Woken, extended, resolved}
 use Rattle.cb_sorts.specs.Source.{Source}
 use Rattle.cb_sorts.specs.Asked.{Asked}
 use Rattle.cb_sorts.specs.OverFile.{asked_program, asked_query}
@@ -175,6 +175,50 @@ pub record WantsNodes (old new : Seen) (b : Branch) : Type 0 where
 abbrev pub unbegun : Source → Asked → ℕ → Seen
 unbegun p q nodes = record { program = p; query = q; state = no_state (length p.declared.constants) nodes; frames = []; links = []; top = 0; steps = 0 }
 
+-- the branch without its first goal
+abbrev pub behind : Branch → List Goal → Branch
+behind b rest = record b { goals = rest }
+
+-- what holds of the branch without its first goal
+abbrev pub OnGoal : Seen → (Branch → Type 0) → Type 0
+OnGoal s P = (b : Branch) (g : Goal) (rest : List Goal) → IsBranch s b → b.goals ≡ g ∷ rest → P (behind b rest)
+
+-- where the first goal is a call: of the branch without it, and of the call
+abbrev pub OnCall : Seen → (Branch → ℕ → List Tree → Type 0) → Type 0
+OnCall s P =
+    (b : Branch) (pred : ℕ) (args : List Tree) (rest : List Goal) → IsBranch s b → b.goals ≡ goal.Call pred args ∷ rest →
+    P (behind b rest) pred args
+
+-- where the first goal is an equation: of the branch with that equation added
+abbrev pub OnEquation : Seen → (Branch → Type 0) → Type 0
+OnEquation s P =
+    (b : Branch) (l r : Tree) (rest : List Goal) → IsBranch s b → b.goals ≡ goal.Equal l r ∷ rest →
+    P (extended (behind b rest) rest (Pair l r ∷ []) [])
+
+-- of the branch with a call's resolution by this clause added
+abbrev pub OnClause : Seen → ℕ → ℕ → (Branch → Type 0) → Type 0
+OnClause s clause call P =
+    (b : Branch) (pred : ℕ) (args : List Tree) (c : Clause) → IsBranch s b → IsCall s call pred args →
+    slice_get (program_of s).clauses clause ≡ Some c → P (resolved b pred args c)
+
+-- the same, where the clause is one of the called predicate
+abbrev pub OnResolution : Seen → ℕ → ℕ → (Branch → Type 0) → Type 0
+OnResolution s clause call P =
+    (b : Branch) (pred : ℕ) (args : List Tree) (c : Clause) → IsBranch s b → IsCall s call pred args →
+    slice_get (program_of s).clauses clause ≡ Some c → c.pred ≡ pred → P (resolved b pred args c)
+
+-- of the clause with this number
+abbrev pub OfClause : Seen → ℕ → (Clause → Type 0) → Type 0
+OfClause s clause P = (c : Clause) → slice_get (program_of s).clauses clause ≡ Some c → P c
+
+-- of a branch that was seen so at this moment, of which now is a later one
+abbrev pub AtMoment : Moment → Seen → (Seen → Type 0) → Type 0
+AtMoment m now P = (s : Seen) (b : Branch) → IsBranch s b → m ≡ moment_of s → Keeps s now → P s
+
+-- the branch's equations have no solution
+abbrev pub IsUnsolvable : Program → Branch → Type 0
+IsUnsolvable p b = Refuted p.world b.items
+
 -- a running branch whose first goal is this
 pub record Starts (s : Seen) (g : Goal) : Type 0 where
   pub b : Branch
@@ -196,10 +240,6 @@ IsFirst first.True gs = (rest : List Goal) × (gs ≡ goal.True ∷ rest)
 IsFirst first.Fail gs = (rest : List Goal) × (gs ≡ goal.Fail ∷ rest)
 IsFirst first.Equal gs = (l : Tree) × (r : Tree) × (rest : List Goal) × (gs ≡ goal.Equal l r ∷ rest)
 IsFirst (first.Call pred) gs = (args : List Tree) × (rest : List Goal) × (gs ≡ goal.Call pred args ∷ rest)
-
--- the branch without its first goal
-abbrev pub behind : Branch → List Goal → Branch
-behind b rest = record b { goals = rest }
 
 -- the addition was tried: the branch goes on where its items are solvable
 pub record GoesOn (p : Program) (new : Seen) (b : Branch) : Type 0 where

@@ -10,7 +10,7 @@ ghost use Rattle.cb_model.specs.Program.{bools};
 ghost use Rattle.cb_model.specs.Equations.{Refuted, Pair};
 ghost use Rattle.cb_model.specs.Derivation.{Branch, extended, first_branch, resolved};
 ghost use Rattle.cb_goals.specs.Chain.{goals_at};
-ghost use Rattle.cb_branch.specs.Running.{GoesOn, HasRoom, IsAt, IsBranch, IsCall, IsFirst, IsResolvable, Keeps, Place, Starts, WantsNodes, asked_goals, behind, program_of, query_of, unbegun, work_of};
+ghost use Rattle.cb_branch.specs.Running.{GoesOn, HasRoom, IsAt, IsBranch, IsCall, IsFirst, IsResolvable, Keeps, OfClause, OnCall, OnClause, OnEquation, IsUnsolvable, OnGoal, OnResolution, Place, Starts, WantsNodes, asked_goals, behind, program_of, query_of, unbegun, work_of};
 ghost use Rattle.cb_branch.specs.Scope.{IsRunnable};
 
 use crate::terms::{compound, equated, renamed};
@@ -75,7 +75,7 @@ impl<'p, 's, 'q> Running<'p, 's, 'q> {
     /// Takes the first goal away.
     pub fn skip(&mut self)
         requires { (g : Goal) × Starts self.old g }
-        ensures branch { (b : Branch) (g : Goal) (rest : List Goal) → IsBranch self.old b → b.goals ≡ g ∷ rest → IsBranch self.new (behind b rest) }
+        ensures branch { OnGoal self.old (IsBranch self.new) }
         ensures work { work_of self.new < work_of self.old }
         ensures keeps { Keeps self.old self.new }
     {
@@ -90,11 +90,11 @@ impl<'p, 's, 'q> Running<'p, 's, 'q> {
     pub fn equate(&mut self) -> Result<bool, Stop>
         requires first { (l r : Tree) × Starts self.old (goal.Equal l r) }
         requires room { HasRoom self.old 0 }
-        ensures yes { result ≡ Ok true → (b : Branch) (l r : Tree) (rest : List Goal) → IsBranch self.old b → b.goals ≡ goal.Equal l r ∷ rest → GoesOn (program_of self.old) self.new (extended (behind b rest) rest (Pair l r ∷ []) []) }
-        ensures no { result ≡ Ok false → (b : Branch) (l r : Tree) (rest : List Goal) → IsBranch self.old b → b.goals ≡ goal.Equal l r ∷ rest → Refuted (program_of self.old).world (extended (behind b rest) rest (Pair l r ∷ []) []).items }
+        ensures yes { result ≡ Ok true → OnEquation self.old (GoesOn (program_of self.old) self.new) }
+        ensures no { result ≡ Ok false → OnEquation self.old (IsUnsolvable (program_of self.old)) }
         ensures work { result ≡ Ok true → work_of self.new < work_of self.old }
         ensures keeps { Keeps self.old self.new }
-        ensures nodes { result ≡ Err Stop.Nodes → (b : Branch) (l r : Tree) (rest : List Goal) → IsBranch self.old b → b.goals ≡ goal.Equal l r ∷ rest → WantsNodes self.old self.new (extended (behind b rest) rest (Pair l r ∷ []) []) }
+        ensures nodes { result ≡ Err Stop.Nodes → OnEquation self.old (WantsNodes self.old self.new) }
     {
         let Some((pending, rest)) = self.goals.first(self.top) else {
             unreachable!()
@@ -118,7 +118,7 @@ impl<'p, 's, 'q> Running<'p, 's, 'q> {
     /// Takes the first goal, a call, away and puts its arguments into cells.
     pub fn call(&mut self) -> Result<Call, Stop>
         requires first { (pred : ℕ) × (args : List Tree) × Starts self.old (goal.Call pred args) }
-        ensures branch { IfOk result (λ c. (b : Branch) (pred : ℕ) (args : List Tree) (rest : List Goal) → IsBranch self.old b → b.goals ≡ goal.Call pred args ∷ rest → IsBranch self.new (behind b rest) × IsCall self.new c.0 pred args) }
+        ensures branch { IfOk result (λ c. OnCall self.old (λ b k xs. IsBranch self.new b × IsCall self.new c.0 k xs)) }
         ensures keeps { Keeps self.old self.new }
         ensures nodes { result ≡ Err Stop.Nodes → (b : Branch) → IsBranch self.old b → WantsNodes self.old self.new b }
     {
@@ -144,10 +144,10 @@ impl<'p, 's, 'q> Running<'p, 's, 'q> {
     /// of use only to go back.
     pub fn resolve(&mut self, clause: u32, call: Call) -> Result<bool, Stop>
         requires { IsResolvable self.old clause call.0 }
-        ensures yes { result ≡ Ok true → (b : Branch) (pred : ℕ) (args : List Tree) (c : Clause) → IsBranch self.old b → IsCall self.old call.0 pred args → slice_get (program_of self.old).clauses clause ≡ Some c → c.pred ≡ pred → GoesOn (program_of self.old) self.new (resolved b pred args c) }
-        ensures no { result ≡ Ok false → (b : Branch) (pred : ℕ) (args : List Tree) (c : Clause) → IsBranch self.old b → IsCall self.old call.0 pred args → slice_get (program_of self.old).clauses clause ≡ Some c → c.pred ≡ pred → Refuted (program_of self.old).world (resolved b pred args c).items }
+        ensures yes { result ≡ Ok true → OnResolution self.old clause call.0 (GoesOn (program_of self.old) self.new) }
+        ensures no { result ≡ Ok false → OnResolution self.old clause call.0 (IsUnsolvable (program_of self.old)) }
         ensures keeps { Keeps self.old self.new }
-        ensures nodes { result ≡ Err Stop.Nodes → (b : Branch) (pred : ℕ) (args : List Tree) (c : Clause) → IsBranch self.old b → IsCall self.old call.0 pred args → slice_get (program_of self.old).clauses clause ≡ Some c → WantsNodes self.old self.new (resolved b pred args c) }
+        ensures nodes { result ≡ Err Stop.Nodes → OnClause self.old clause call.0 (WantsNodes self.old self.new) }
     {
         let program: &'p Program<'s> = self.program;
         let view = program.clause(clause);
@@ -189,7 +189,7 @@ impl<'p, 's, 'q> Running<'p, 's, 'q> {
     /// How many Boolean variables a clause has.
     pub fn clause_variables(&self, clause: u32) -> usize
         requires { clause < length (program_of self.now).clauses }
-        ensures count { (c : Clause) → slice_get (program_of self.now).clauses clause ≡ Some c → result ≡ bools c.sorts }
+        ensures count { OfClause self.now clause (λ c. result ≡ bools c.sorts) }
         ensures few { result < 2 ^ 63 }
     {
         booleans(self.program.clause(clause).sorts)

@@ -10,7 +10,7 @@ ghost use Rattle.cb_model.specs.declared.Clause.{Clause};
 ghost use Rattle.cb_model.specs.Program.{bools, first_clause, next_clause};
 ghost use Rattle.cb_model.specs.Equations.{Refuted, Pair};
 ghost use Rattle.cb_model.specs.Derivation.{Branch, extended, first_branch, is_demon, Ready, resolved};
-ghost use Rattle.cb_branch.specs.Running.{GoesOn, HasRoom, IsBranch, IsCall, IsAt, IsFirst, IsPrinted, IsResolvable, Keeps, Place, Seen, Starts, WantsNodes, behind, moment_of, program_of, query_of, unbegun, with_fulls, fulls_of, work_of};
+ghost use Rattle.cb_branch.specs.Running.{AtMoment, GoesOn, HasRoom, IsBranch, IsCall, IsAt, IsFirst, IsPrinted, IsResolvable, Keeps, Place, Seen, Starts, WantsNodes, behind, moment_of, OfClause, program_of, query_of, unbegun, with_fulls, fulls_of, work_of};
 ghost use Rattle.cb_model.specs.Output.{printed_from};
 ghost use Rattle.cb_branch.specs.Scope.{IsRunnable};
 ghost use Rattle.cb_branch.specs.Accepted.{AcceptedCanRun};
@@ -133,7 +133,7 @@ impl<'p, 's, 'q> Running<'p, 's, 'q> {
     /// Goes back to a moment at which the branch was this one. It takes no memory.
     pub fn undo(&mut self, to: Mark)
         requires { (s : Seen) × (b : Branch) × IsBranch s b × (to ≡ moment_of s) × Keeps s self.old }
-        ensures back { (s : Seen) (b : Branch) → IsBranch s b → to ≡ moment_of s → Keeps s self.old → self.new ≡ with_fulls (fulls_of self.old) s }
+        ensures back { AtMoment to self.old (λ s. self.new ≡ with_fulls (fulls_of self.old) s) }
     {
         self.state.undo(to.state);
         self.frames.truncate(to.frames);
@@ -179,7 +179,7 @@ impl<'p, 's, 'q> Running<'p, 's, 'q> {
     /// The next clause of the same predicate; `None` where there is none.
     pub fn next_clause(&self, clause: u32) -> Option<u32>
         requires { clause < length (program_of self.now).clauses }
-        ensures { (c : Clause) → slice_get (program_of self.now).clauses clause ≡ Some c → result ≡ next_clause (program_of self.now) c.pred clause }
+        ensures { OfClause self.now clause (λ c. result ≡ next_clause (program_of self.now) c.pred clause) }
     {
         self.program.after(clause)
     }

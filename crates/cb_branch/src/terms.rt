@@ -11,7 +11,7 @@ ghost use Rattle.cb_unify.specs.State.{HasNone, IsState};
 ghost use Rattle.cb_unify.specs.Moments.{KeepsMoments};
 ghost use Rattle.cb_items.specs.Items.{AddsFrame, Refuses, wants_nodes};
 ghost use Rattle.cb_items.specs.Standing.{IsFrame};
-ghost use Rattle.cb_branch.specs.Terms.{Adds, ForEquation, ForHead, IsBuildable, IsHead, IsHeaded, IsRenamed, IsUnheaded, Makes, NoItem};
+ghost use Rattle.cb_branch.specs.Terms.{AddsHead, CanBuild, CanBuildTerm, CanEquate, Equates, ForEquation, ForHead, Heads, IfFrame, IfNoFrame, IsHead, IsMade, IsMadeTerm, NeverHeads, NoItem};
 
 use cb_dd::Stop;
 use cb_heap::Ref;
@@ -22,8 +22,8 @@ use cb_unify::{Frame, State};
 /// The cell of a tree over the variables of a frame.
 pub(crate) fn built(state: &mut State, tree: &Tree, frame: &Frame) -> Result<Ref, Stop>
     requires state { IsState state.old }
-    requires buildable { (t : Sorts) × (zs : List Sort) × (z : Sort) × IsBuildable state.old t zs frame.now z tree.now }
-    ensures makes { IfOk result (λ r. (t : Sorts) (zs : List Sort) (z : Sort) → IsBuildable state.old t zs frame.now z tree.now → Makes t state.old state.new zs frame.now z tree.now r.0) }
+    requires buildable { CanBuild state.old frame.now tree.now }
+    ensures makes { IfOk result (λ r. IsMade state.old state.new frame.now tree.now r.0) }
     ensures refusals { Refuses state.old state.new (wants_nodes result) }
     ensures moments { KeepsMoments state.old state.new }
     ensures state { IsState state.new }
@@ -42,8 +42,8 @@ pub(crate) fn compound(
     frame: &Frame,
 ) -> Result<Ref, Stop>
     requires state { IsState state.old }
-    requires buildable { (t : Sorts) × (zs : List Sort) × IsBuildable state.old t zs frame.now sort.Term (tree.Node name args.now) }
-    ensures makes { IfOk result (λ r. (t : Sorts) (zs : List Sort) → IsBuildable state.old t zs frame.now sort.Term (tree.Node name args.now) → Makes t state.old state.new zs frame.now sort.Term (tree.Node name args.now) r.0) }
+    requires buildable { CanBuildTerm state.old frame.now (tree.Node name args.now) }
+    ensures makes { IfOk result (λ r. IsMadeTerm state.old state.new frame.now (tree.Node name args.now) r.0) }
     ensures refusals { Refuses state.old state.new (wants_nodes result) }
     ensures moments { KeepsMoments state.old state.new }
     ensures state { IsState state.new }
@@ -62,8 +62,8 @@ pub(crate) fn equated(
     frame: &Frame,
 ) -> Result<bool, Stop>
     requires state { IsState state.old }
-    requires buildable { (t : Sorts) × (zs : List Sort) × (z : Sort) × IsBuildable state.old t zs frame.now z left.now × IsBuildable state.old t zs frame.now z right.now }
-    ensures yes { result ≡ Ok true → ForEquation state.old frame.now left.now right.now (λ w x. Adds w state.old state.new 0 x × (state.new.made ≡ state.old.made)) }
+    requires buildable { CanEquate state.old frame.now left.now right.now }
+    ensures yes { result ≡ Ok true → ForEquation state.old frame.now left.now right.now (Equates state.old state.new) }
     ensures no { result ≡ Ok false → ForEquation state.old frame.now left.now right.now (λ w x. NoItem w state.old x) }
     ensures refusals { Refuses state.old state.new (wants_nodes result) }
     ensures moments { KeepsMoments state.old state.new }
@@ -87,8 +87,8 @@ pub(crate) fn renamed(
     requires room { state.old.store.drawn + bools sorts.now < 2 ^ 32 }
     requires call { call.0 < length state.old.heap.sorts }
     requires head { (t : Sorts) × IsHead state.old t sorts.now name head.now }
-    ensures yes { IfOk result (λ o. IfSome o (λ f. ForHead state.old sorts.now name head.now call.0 (λ w x. Adds w state.old state.new (bools sorts.now) x × IsRenamed state.old state.new sorts.now f))) }
-    ensures no { IfOk result (λ o. IfNone o (ForHead state.old sorts.now name head.now call.0 (λ w x. NoItem w state.old x))) }
+    ensures yes { IfFrame result (AddsHead state.old state.new sorts.now name head.now call.0) }
+    ensures no { IfNoFrame result (ForHead state.old sorts.now name head.now call.0 (λ w x. NoItem w state.old x)) }
     ensures refusals { Refuses state.old state.new (wants_nodes result) }
     ensures moments { KeepsMoments state.old state.new }
     ensures state { IsState state.new }
@@ -117,9 +117,9 @@ fn headed(
 ) -> Result<bool, Stop>
     requires state { IsState state.old }
     requires call { call.0 < length state.old.heap.sorts }
-    requires buildable { (t : Sorts) × (zs : List Sort) × IsBuildable state.old t zs frame.now sort.Term (tree.Node name head.now) }
-    ensures yes { result ≡ Ok true → (t : Sorts) (zs : List Sort) → IsBuildable state.old t zs frame.now sort.Term (tree.Node name head.now) → IsHeaded t state.old state.new zs frame.now (tree.Node name head.now) call.0 }
-    ensures no { result ≡ Ok false → (t : Sorts) (zs : List Sort) → IsBuildable state.old t zs frame.now sort.Term (tree.Node name head.now) → IsUnheaded t state.old zs frame.now (tree.Node name head.now) call.0 }
+    requires buildable { CanBuildTerm state.old frame.now (tree.Node name head.now) }
+    ensures yes { result ≡ Ok true → Heads state.old state.new frame.now (tree.Node name head.now) call.0 }
+    ensures no { result ≡ Ok false → NeverHeads state.old frame.now (tree.Node name head.now) call.0 }
     ensures refusals { Refuses state.old state.new (wants_nodes result) }
     ensures moments { KeepsMoments state.old state.new }
     ensures state { IsState state.new }

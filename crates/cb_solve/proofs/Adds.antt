@@ -1,28 +1,15 @@
 -- What the additions of the branch that runs come to, from what the branch says of them.
-use Rattle.std.proofs.Common.{◌≡◌, ℕ, ◌+◌, ◌<◌, sym, List, [], ◌∷◌, Option, Some, None, refl, ap, true, false, Ok, Err, Result, ◌∙◌}
-use Rattle.std.specs.Prelude.{slice_get, Bool}
-use Rattle.std.specs.Option.{option_map}
-use Rattle.cb_model.specs.declared.Tree.{Tree}
-use Rattle.cb_model.specs.declared.Goal.{Goal}
-use Rattle.cb_model.specs.declared.Goal.TheVariants as goal
-use Rattle.cb_model.specs.declared.Circuit.{Circuit}
+use Rattle.std.proofs.Common.{◌≡◌, ℕ, [], ◌∷◌, Some, None, refl, ap, Err, Result}
 use Rattle.cb_model.specs.Equations.{Pair, Refuted}
-use Rattle.cb_model.specs.Program.{Program, bools}
-use Rattle.cb_model.specs.Derivation.{Branch, Entry, Run, Query, extended, with_circuit, passed}
-use Rattle.cb_model.specs.Derivation as derivation
+use Rattle.cb_model.specs.Derivation.{Branch, Run, extended}
 use Rattle.cb_branch.specs.declared.First.TheVariants as first
 use Rattle.cb_dd.specs.declared.Stop.{Stop}
-use Rattle.cb_dd.specs.declared.Stop.TheVariants.{Nodes, Memory}
-use Rattle.cb_branch.specs.Running.{Seen, IsBranch, GoesOn, WantsNodes, nodes_of, program_of, query_of, behind}
+use Rattle.cb_branch.specs.Running.{GoesOn, WantsNodes, nodes_of, program_of, query_of, behind}
 use Rattle.cb_branch.proofs.Laws.{keeps-refl}
 use Rattle.cb_solve.specs.declared.Budget.{Budget}
 use Rattle.cb_solve.specs.declared.Machine.{Machine}
-use Rattle.cb_solve.specs.Machine.{Has, RunsAt, TriesAt, StopsAt, IsFew, IsSame, budget_in}
+use Rattle.cb_solve.specs.Machine.{Has, RunsAt, TriesAt, StopsAt, IsFew, IsSame, Passes}
 use Rattle.cb_solve.proofs.Stacks.{Addition, equal-addition, stops-at, none-passed, add-goes, add-fails, few-adding}
-
--- what is said of the budgets: x is the budget that an addition would pass
-abbrev pub Passes : Machine → ℕ → ℕ → Option Budget → Type 0
-Passes m r more x = (b c : Branch) → IsBranch m.branch b → bools c.sorts ≡ bools b.sorts + more → c.steps ≡ b.steps + 1 → x ≡ option_map budget_in (passed (program_of m.branch) m.budget (m.used + r) c)
 
 pub same-self : (m : Machine) → IsSame m m
 same-self m = record { budget = refl; answers = refl; used = refl; keeps = keeps-refl m.branch }

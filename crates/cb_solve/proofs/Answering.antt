@@ -1,19 +1,15 @@
 -- The answers of a run.
-use Rattle.std.proofs.Common.{◌≡◌, ℕ, ◌+◌, Bool, List, [], ◌∷◌, ◌++◌, length, Option, Some, None, refl, sym, ap, subst, ◌∙◌, arith, length-append}
+use Rattle.std.proofs.Common.{◌≡◌, ℕ, ◌+◌, Bool, List, [], ◌∷◌, length, Option, ap, subst, ◌∙◌, arith, length-append}
 use Rattle.cb_model.specs.Derivation.{Branch, Note, Printed, SoFar, printed_of}
-use Rattle.cb_branch.specs.Running.{Seen, program_of, query_of}
+use Rattle.cb_branch.specs.Running.{program_of, query_of}
 use Rattle.cb_solve.specs.declared.Event.{Event}
 use Rattle.cb_solve.specs.declared.Event.TheVariants as event
 use Rattle.cb_solve.specs.declared.Machine.{Machine}
 use Rattle.cb_solve.specs.declared.Stepped.{Stepped}
 use Rattle.cb_solve.specs.declared.Stepped.TheVariants as stepped
 use Rattle.cb_solve.specs.Machine.{AtStep, AnswersAt, IsTurned}
-use Rattle.cb_solve.specs.Run.{Run, AnswerFollows, IsHeard}
+use Rattle.cb_solve.specs.Run.{Run, AnswerFollows, IsHeard, run_of}
 use Rattle.cb_solve.proofs.Runs.{printed-append}
-
--- the view of a run
-abbrev pub run_of : Machine → Option Event → Bool → Run
-run_of m o s = record { state = m.branch; budget = m.budget; answers = m.answers; over = o; starved = s; rest = record { choices = m.choices.items; used = m.used; running = m.running } }
 
 follows : (m n : Machine) (o o' : Option Event) (s s' : Bool) (b : Branch) → AnswersAt (program_of m.branch) (query_of m.branch) n b → IsTurned m n stepped.Answer → AnswerFollows (run_of m o s) (run_of n o' s')
 follows m n o o' s s' b h t =

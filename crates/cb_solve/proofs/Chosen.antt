@@ -1,26 +1,18 @@
 -- What calls come to: choices, waits and commits.
-use Rattle.std.proofs.Common.{◌≡◌, ℕ, ◌+◌, ◌<◌, ◌≤◌, inl, inr, Bool, true, false, List, [], ◌∷◌, ◌++◌, length, Option, Some, None, refl, sym, ap, subst, ◌∙◌, arith, Ok, Err}
+use Rattle.std.proofs.Common.{◌≡◌, ℕ, ◌+◌, false, List, [], ◌∷◌, ◌++◌, Some, None, refl, sym, ap, subst, ◌∙◌, arith}
 use Rattle.std.specs.Prelude.{slice_get}
-use Rattle.cb_model.specs.declared.Tree.{Tree}
 use Rattle.cb_model.specs.declared.Goal.{Goal}
 use Rattle.cb_model.specs.declared.Goal.TheVariants as goal
-use Rattle.cb_model.specs.declared.Clause.{Clause}
 use Rattle.cb_model.specs.Program.{Program, first_clause}
-use Rattle.cb_model.specs.Derivation.{Branch, Entry, Run, Try, Query, Note, SoFar, Becomes, Dropped, Moves, tried, printed_of}
+use Rattle.cb_model.specs.Derivation.{Branch, Entry, Run, Try, Query, SoFar, Becomes, Dropped}
 use Rattle.cb_branch.specs.Running.{Seen, IsBranch, IsCall, Keeps, moment_of, program_of, query_of, behind}
 use Rattle.cb_branch.proofs.Laws.{calls-ready, keeps-refl, program-keeps, query-keeps}
 use Rattle.cb_solve.specs.declared.Choice.{Choice}
 use Rattle.cb_solve.specs.declared.Machine.{Machine}
-use Rattle.std.proofs.Common.{Result, IfOk}
 use Rattle.cb_branch.specs.declared.First.TheVariants as first
-use Rattle.cb_dd.specs.declared.Stop.{Stop}
-use Rattle.cb_branch.specs.Running.{work_of}
-use Rattle.cb_branch.proofs.Laws.{keeps-then}
-use Rattle.cb_solve.specs.declared.Stepped.{Stepped}
-use Rattle.cb_solve.specs.declared.Stepped.TheVariants as stepped
 use Rattle.cb_model.specs.Derivation.{RunMoves, Answered}
 use Rattle.cb_solve.proofs.Runs.{moves-first}
-use Rattle.cb_solve.specs.Machine.{Runs, AnswersAt, Stacked, none, more, Counted, RunsAt, TriesAt, AtStep, Chooses, Has, IsSame, IsStep}
+use Rattle.cb_solve.specs.Machine.{Runs, AnswersAt, more, Counted, RunsAt, TriesAt, Chooses, Has, IsSame}
 use Rattle.cb_solve.proofs.Stacks.{stacked-later, counted-step, runs-step, leaves-step, try-moves}
 use Rattle.cb_solve.proofs.Clauses.{first-there}
 

@@ -1,5 +1,5 @@
 -- The first clause of a predicate is one of the program, and of the predicate.
-use Rattle.std.proofs.Common.{◌≡◌, ℕ, zero, suc, ◌+◌, Bool, true, false, List, [], ◌∷◌, ◌++◌, drop, length, ◌<◌, Option, Some, None, refl, sym, ap, subst, ◌∙◌, arith, zero-add, cond}
+use Rattle.std.proofs.Common.{◌≡◌, ℕ, zero, suc, ◌+◌, Bool, true, false, List, [], ◌∷◌, drop, length, ◌<◌, Some, refl, sym, subst, arith, zero-add, cond}
 use Rattle.std.specs.Prelude.{slice_get, nat_eq}
 use Rattle.std.proofs.lemmas.Bool.{eqb-true}
 use Rattle.cb_model.specs.declared.Clause.{Clause}

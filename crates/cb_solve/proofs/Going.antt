@@ -1,5 +1,5 @@
 -- A run stays one, after a step and after a loan of its terms.
-use Rattle.std.proofs.Common.{◌≡◌, ◌⊎◌, inl, inr, ℕ, ◌≤◌, Bool, true, false, List, Option, Some, None, refl, sym, ap, subst, ◌∙◌, Global}
+use Rattle.std.proofs.Common.{◌≡◌, inl, inr, ℕ, ◌≤◌, Bool, true, false, List, Option, Some, None, refl, sym, ap, subst, ◌∙◌, Global}
 use Rattle.cb_model.specs.Program.{Program}
 use Rattle.cb_model.specs.Derivation.{Entry, Query}
 use Rattle.cb_branch.specs.Running.{Keeps, Seen, fulls_of, program_of, query_of, with_fulls}
@@ -13,7 +13,7 @@ use Rattle.cb_solve.specs.declared.Stepped.TheVariants as stepped
 use Rattle.cb_solve.specs.Machine.{AtStep, Counted, IsTurned, Stacked, Stands, TriesAt}
 use Rattle.cb_solve.specs.Run.{IsEngine, IsHeard, IsRun, Run, last_of, machine_with}
 use Rattle.cb_solve.specs.Lending.{LoanKeepsTheRun}
-use Rattle.cb_solve.proofs.Answering.{run_of}
+use Rattle.cb_solve.specs.Run.{run_of}
 use Rattle.cb_solve.proofs.Stacks.{stacked-later}
 
 pub none-of : (o : Option Event) → ((x : Event) → o ≡ Some x → ⊥) → o ≡ None

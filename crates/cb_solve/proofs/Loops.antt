@@ -1,7 +1,7 @@
 -- The loops over steps.
-use Rattle.std.proofs.Common.{◌≡◌, ℕ, ◌+◌, ◌<◌, ◌≤◌, true, false, refl, sym, ap, subst, ◌∙◌, arith, Ok, Err, Result, IfOk}
-use Rattle.cb_branch.specs.Running.{Seen, Keeps, program_of, query_of, work_of}
-use Rattle.cb_branch.proofs.Laws.{keeps-refl, keeps-then}
+use Rattle.std.proofs.Common.{◌≡◌, ℕ, ◌+◌, refl, ap, ◌∙◌}
+use Rattle.cb_branch.specs.Running.{program_of, query_of}
+use Rattle.cb_branch.proofs.Laws.{keeps-then}
 use Rattle.cb_solve.specs.declared.Machine.{Machine}
 use Rattle.cb_solve.specs.declared.Stepped.{Stepped}
 use Rattle.cb_solve.specs.declared.Stepped.TheVariants as stepped

@@ -1,5 +1,5 @@
 -- Tries and commits.
-use Rattle.std.proofs.Common.{◌≡◌, ℕ, zero, suc, ◌+◌, ◌<◌, ◌≤◌, inl, inr, Bool, true, false, List, [], ◌∷◌, ◌++◌, length, Option, Some, None, refl, sym, ap, subst, ◌∙◌, arith, length-append, Ok, Err, Result, IfOk}
+use Rattle.std.proofs.Common.{◌≡◌, ℕ, ◌+◌, ◌≤◌, inl, inr, List, [], ◌∷◌, ◌++◌, length, Option, Some, None, refl, sym, ap, subst, ◌∙◌, arith, length-append, Ok, Err, Result, IfOk}
 use Rattle.std.specs.declared.vec.Vec.{Vec}
 use Rattle.std.proofs.Common.{Global}
 use Rattle.std.specs.Prelude.{slice_get, option_map, option_to_list}
@@ -9,18 +9,17 @@ use Rattle.cb_model.specs.declared.Clause.{Clause}
 use Rattle.cb_model.specs.Equations.{Refuted}
 use Rattle.cb_model.specs.Outside.{Rose}
 use Rattle.cb_model.specs.Program.{Program, next_clause, bools}
-use Rattle.cb_model.specs.Derivation.{Branch, Entry, Run, Try, Query, Note, SoFar, Plain, Whole, runs, whole, Adds, Made, Change, passed, resolved, try_next, printed_of}
-use Rattle.cb_model.specs.Derivation as derivation
+use Rattle.cb_model.specs.Derivation.{Branch, Entry, Run, Try, Query, Note, SoFar, Plain, Whole, runs, whole, Adds, Made, passed, resolved, try_next, printed_of}
 use Rattle.cb_branch.specs.Running.{Seen, HasRoom, IsBranch, IsCall, Keeps, GoesOn, WantsNodes, fulls_of, moment_of, nodes_of, program_of, query_of, with_fulls}
 use Rattle.cb_branch.proofs.Laws.{asked-keeps, branch-fulls, call-fulls, fulls-keep, fulls-with, keeps-refl, keeps-with, nodes-keep, program-keeps, query-keeps, source-keeps}
 use Rattle.cb_solve.specs.declared.Choice.{Choice}
 use Rattle.cb_solve.specs.declared.Budget.{Budget}
 use Rattle.cb_solve.specs.declared.Machine.{Machine}
-use Rattle.cb_solve.specs.Machine.{Stacked, none, more, Counted, RunsAt, TriesAt, EndsAt, StopsAt, FewAt, HasRoomFor, IsFew, MayLeave, Resolves, LeavesNext, IsSame, budget_in}
+use Rattle.cb_solve.specs.Machine.{Stacked, none, more, RunsAt, TriesAt, EndsAt, StopsAt, FewAt, HasRoomFor, IsFew, MayLeave, Resolves, LeavesNext, IsSame}
 use Rattle.cb_solve.proofs.Runs.{so-far-step, printed-append}
 use Rattle.cb_solve.proofs.Stacks.{Addition, try-addition, stacked-later, none-passed, stops-at}
 use Rattle.cb_solve.proofs.Clauses.{next-there}
-use Rattle.cb_solve.proofs.Adds.{Passes}
+use Rattle.cb_solve.specs.Machine.{Passes}
 use Rattle.cb_solve.specs.declared.Stepped.TheVariants as stepped
 use Rattle.cb_dd.specs.declared.Stop.{Stop}
 use Rattle.cb_solve.specs.declared.Stepped.{Stepped}

@@ -1,30 +1,27 @@
 -- The stack of choices, and what a step of the running branch makes of the machine.
-use Rattle.std.proofs.Common.{◌≡◌, ℕ, ◌+◌, ◌<◌, ◌≤◌, ◌⊎◌, inl, inr, true, false, List, [], ◌∷◌, ◌++◌, length, Option, Some, None, refl, sym, ap, subst, ◌∙◌, arith, length-append}
+use Rattle.std.proofs.Common.{◌≡◌, ℕ, ◌+◌, inl, inr, false, List, [], ◌∷◌, ◌++◌, length, Option, Some, None, refl, sym, ap, subst, ◌∙◌, arith, length-append}
 use Rattle.cb_model.specs.declared.Tree.{Tree}
 use Rattle.cb_model.specs.declared.Goal.{Goal}
 use Rattle.cb_model.specs.Program.{Program}
-use Rattle.cb_model.specs.Equations.{Solvable, Refuted}
+use Rattle.cb_model.specs.Equations.{Refuted}
 use Rattle.cb_model.specs.Derivation.{Branch, Entry, Run, Try, Change, Adds, Becomes, Answered, Dropped, Query, Note, Printed, Made, SoFar, Moves, Replaces, stop_of, notes_of, printed_of, resolutions_of}
 use Rattle.std.specs.Option.{option_map}
-use Rattle.cb_branch.specs.Running.{Seen, IsBranch, IsCall, Keeps, GoesOn, moment_of, program_of, query_of, with_fulls}
+use Rattle.cb_branch.specs.Running.{Seen, IsBranch, Keeps, GoesOn, program_of, query_of}
 use Rattle.cb_branch.proofs.Laws.{keeps-then, program-keeps, query-keeps}
 use Rattle.cb_solve.specs.declared.Choice.{Choice}
 use Rattle.cb_solve.specs.declared.Machine.{Machine}
 use Rattle.cb_model.specs.declared.Goal.TheVariants as goal
 use Rattle.cb_model.specs.declared.Clause.{Clause}
-use Rattle.cb_model.specs.declared.Circuit.{Circuit}
 use Rattle.cb_model.specs.Equations.{Pair}
-use Rattle.std.specs.Prelude.{Bool, MatchBool, cond, map, slice_get, zero, suc}
-use Rattle.std.proofs.lemmas.List.Sums.{sum_by-append, sum_by-cons}
+use Rattle.std.specs.Prelude.{Bool, MatchBool, cond, slice_get}
+use Rattle.std.proofs.lemmas.List.Sums.{sum_by-append}
 use Rattle.cb_model.specs.declared.Sort.{Sort}
-use Rattle.cb_model.specs.declared.Sort.TheVariants as sort
-use Rattle.cb_model.specs.Bits.{numbers_from}
-use Rattle.cb_model.specs.Program.{bools, is_bool, first_clause, next_clause}
+use Rattle.cb_model.specs.Program.{bools, is_bool, first_clause}
 use Rattle.cb_model.specs.Derivation.{DemonMoves, CallMoves, Plain, runs, stops, whole, Ready, RuleMatches, Woken, extended, with_circuit, resolved, waits, is_demon, passed, tried, try_next}
 use Rattle.cb_model.specs.Derivation as derivation
 use Rattle.cb_branch.specs.Running.{TooFew, WantsNodes, behind}
 use Rattle.cb_solve.specs.declared.Budget.{Budget}
-use Rattle.cb_solve.specs.Machine.{Stacked, none, more, Counted, RunsAt, TriesAt, AnswersAt, StopsAt, EndsAt, FewAt, IsFew, IsSame, budget_in}
+use Rattle.cb_solve.specs.Machine.{Stacked, none, more, Counted, RunsAt, TriesAt, StopsAt, FewAt, IsFew, IsSame, budget_in}
 use Rattle.cb_solve.proofs.Runs.{so-far-step, printed-append, moves-first}
 
 pub stacked-later : (s t : Seen) (cs : List Choice) (es : List Entry) → Keeps s t → Stacked s cs es → Stacked t cs es

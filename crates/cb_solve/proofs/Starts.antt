@@ -1,16 +1,16 @@
 -- The beginning of a run.
-use Rattle.std.proofs.Common.{◌≡◌, ℕ, ◌+◌, ◌<◌, ◌≤◌, inl, inr, Bool, true, false, List, [], ◌∷◌, length, Option, Some, None, refl, sym, ap, subst, ◌∙◌, arith, Global}
+use Rattle.std.proofs.Common.{◌≡◌, ℕ, ◌+◌, ◌<◌, ◌≤◌, inl, Bool, true, false, List, [], ◌∷◌, Option, Some, None, refl, sym, ap, subst, ◌∙◌, arith, Global}
 use Rattle.std.specs.Prelude.{nat_lt, if◌then◌else◌}
 use Rattle.cb_model.specs.Program.{Program, bools}
 use Rattle.cb_model.specs.Derivation.{Branch, Entry, Run, Made, SoFar, here, Plain, stopped, Query, first_branch, passed}
 use Rattle.cb_model.specs.Derivation as derivation
-use Rattle.cb_branch.specs.Running.{Seen, IsBranch, Keeps, WantsNodes, fulls_of, nodes_of, program_of, query_of, unbegun}
+use Rattle.cb_branch.specs.Running.{Seen, IsBranch, Keeps, WantsNodes, nodes_of, program_of, query_of, unbegun}
 use Rattle.cb_branch.proofs.Laws.{asked-keeps, nodes-keep, nodes-unbegun, program-keeps, program-unbegun, query-keeps, query-unbegun, source-keeps}
 use Rattle.cb_solve.specs.declared.Choice.{Choice}
 use Rattle.cb_solve.specs.declared.Machine.{Machine}
-use Rattle.cb_solve.specs.Machine.{FewAt, HasRoomFor, Stands, Stacked, none, RunsAt}
+use Rattle.cb_solve.specs.Machine.{HasRoomFor, Stands, Stacked, none, RunsAt}
 use Rattle.cb_solve.specs.Run.{Begins, BeginsWith, IsBegun, IsEngine, IsRun, IsUnbegun, OnNone}
-use Rattle.cb_solve.proofs.Answering.{run_of}
+use Rattle.cb_solve.specs.Run.{run_of}
 use Rattle.cb_solve.specs.declared.Event.{Event}
 use Rattle.std.specs.declared.vec.Vec.{Vec}
 use Rattle.cb_sorts.specs.Source.{Source}

@@ -1,14 +1,14 @@
 -- Turns of the machine.
-use Rattle.std.proofs.Common.{◌≡◌, ℕ, ◌+◌, ◌-◌, ◌<◌, ◌≤◌, ◌⊎◌, inl, inr, Bool, true, false, refl, sym, ap, subst, ◌∙◌, arith, Ok, Err, Result, IfOk, add-zero}
-use Rattle.cb_model.specs.Derivation.{Branch, Query}
+use Rattle.std.proofs.Common.{◌≡◌, ◌-◌, ◌<◌, inl, inr, true, false, refl, ◌∙◌, arith, Ok, Err, Result, IfOk}
+use Rattle.cb_model.specs.Derivation.{Query}
 use Rattle.cb_model.specs.Program.{Program}
 use Rattle.cb_dd.specs.declared.Stop.{Stop}
-use Rattle.cb_branch.specs.Running.{Seen, fulls_of, nodes_of, program_of, query_of}
+use Rattle.cb_branch.specs.Running.{program_of, query_of}
 use Rattle.cb_branch.proofs.Laws.{asked-keeps, fulls-keep, nodes-keep, program-keeps, query-keeps, source-keeps}
 use Rattle.cb_solve.specs.declared.Machine.{Machine}
 use Rattle.cb_solve.specs.declared.Stepped.{Stepped}
 use Rattle.cb_solve.specs.declared.Stepped.TheVariants as stepped
-use Rattle.cb_solve.specs.Machine.{AtStep, IsFew, IsNext, IsRan, IsSame, IsTurn, IsTurned, IsEvent, IsHeardOf, Onward, Runs, RunsAt, Stands, TriesAt, answers_of}
+use Rattle.cb_solve.specs.Machine.{AtStep, IsFew, IsNext, IsRan, IsSame, IsTurn, IsTurned, IsEvent, IsHeardOf, Onward, Runs, Stands, TriesAt, answers_of}
 use Rattle.cb_solve.proofs.Resolving.{as-of, to-of, few-from, same-run}
 
 pub stands-off : (p : Program) (q : Query) (m : Machine) → Stands p q m → m.running ≡ false → TriesAt p q m

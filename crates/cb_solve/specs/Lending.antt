@@ -15,8 +15,11 @@ with_state u r = record r { state = lending.with_state u r.state }
 
 -- when the loan is over, the run has the terms that were left, and all else as before
 abbrev pub LendsState : MutBor Run → MutBor state.Seen → Fml
-LendsState s r = Lends (the_row (record { mir = named 1; lft = [] }) (record { mir = named 2; lft = [] }) (record { mir = named 3; lft = [] })) state_row s r (λ u. with_state u s.now)
+LendsState s r =
+    Lends (the_row (record { mir = named 1; lft = [] }) (record { mir = named 2; lft = [] }) (record { mir = named 3; lft = [] }))
+    state_row s r (λ u. with_state u s.now)
 
 -- the same terms, but for a count of refusals that has not fallen, give a run again
 abbrev pub LoanKeepsTheRun : Type 0
-LoanKeepsTheRun = (r : Run) (n : ℕ) → IsRun r → fulls_of r.state ≤ n → IsRun (with_state (state.with_fulls n r.state.state) r)
+LoanKeepsTheRun =
+    (r : Run) (n : ℕ) → IsRun r → fulls_of r.state ≤ n → IsRun (with_state (state.with_fulls n r.state.state) r)

@@ -1,15 +1,14 @@
 -- The stack of the derivation as the machine keeps it: choices with marks, and on them the branch that runs.
-use Rattle.std.specs.Prelude.{◌≡◌, ℕ, ◌+◌, ◌<◌, ◌≤◌, Bool, true, false, ◌⊎◌, List, [], ◌∷◌, ◌++◌, length, Option, Some, None, slice_get}
+use Rattle.std.specs.Prelude.{◌≡◌, ℕ, ◌+◌, ◌<◌, ◌≤◌, true, false, ◌⊎◌, List, [], ◌∷◌, ◌++◌, length, Option, Some, None, slice_get}
 use Rattle.cb_model.specs.declared.Tree.{Tree}
-use Rattle.cb_model.specs.declared.Goal.{Goal}
-use Rattle.cb_model.specs.declared.Goal.TheVariants as goal
 use Rattle.cb_model.specs.declared.Clause.{Clause}
+use Rattle.std.specs.Option.{option_map}
 use Rattle.cb_model.specs.Outside.{Rose}
 use Rattle.cb_model.specs.Program.{Program, bools}
 use Rattle.cb_model.specs.Derivation.{resolved, try_next, Becomes, Branch, Entry, Run, Try, Query, Note, Printed, SoFar, Plain, Moves, Adds, Whole, printed_of, stop_of}
 use Rattle.cb_model.specs.Derivation as derivation
 use Rattle.cb_branch.specs.declared.First.{First}
-use Rattle.cb_branch.specs.Running.{Seen, IsBranch, IsFirst, behind, IsCall, Keeps, TooFew, HasRoom, fulls_of, moment_of, nodes_of, program_of, query_of, work_of}
+use Rattle.cb_branch.specs.Running.{Seen, IsBranch, IsFirst, IsCall, Keeps, TooFew, HasRoom, fulls_of, moment_of, nodes_of, program_of, query_of, work_of}
 use Rattle.cb_solve.specs.declared.Budget.{Budget}
 use Rattle.cb_solve.specs.declared.Budget.TheVariants as budget
 use Rattle.cb_solve.specs.declared.Choice.{Choice}
@@ -23,12 +22,20 @@ budget_in derivation.Resolutions = budget.Resolutions
 budget_in derivation.Variables = budget.Variables
 budget_in derivation.Equations = budget.Equations
 
+-- what an addition would pass, which takes so many resolutions and Boolean variables more
+abbrev pub Passes : Machine → ℕ → ℕ → Option Budget → Type 0
+Passes m resolutions more x =
+    (b c : Branch) → IsBranch m.branch b → bools c.sorts ≡ bools b.sorts + more → c.steps ≡ b.steps + 1 →
+    x ≡ option_map budget_in (derivation.passed (program_of m.branch) m.budget (m.used + resolutions) c)
+
 -- The choices are the entries, the newest last: each has a moment of which now is a later one, and at that moment the
 -- branch was the entry's, with its call in cells.
 pub data Stacked : Seen → List Choice → List Entry → Type 0 where
   none : {s : Seen} → Stacked s [] []
-  more : {s : Seen} {choices : List Choice} {entries : List Entry} (t : Seen) (b : Branch) (pred : ℕ) (args : List Tree) (c : Clause) (lower : List Choice) (top : Choice) (rest : List Entry) →
-      choices ≡ lower ++ top ∷ [] → entries ≡ Try b pred args top.clause ∷ rest → Keeps t s → top.mark ≡ moment_of t → IsBranch t b → IsCall t top.call.0 pred args →
+  more : {s : Seen} {choices : List Choice} {entries : List Entry} (t : Seen) (b : Branch) (pred : ℕ) (args : List Tree)
+      (c : Clause) (lower : List Choice) (top : Choice) (rest : List Entry) →
+      choices ≡ lower ++ top ∷ [] → entries ≡ Try b pred args top.clause ∷ rest →
+      Keeps t s → top.mark ≡ moment_of t → IsBranch t b → IsCall t top.call.0 pred args →
       slice_get (program_of t).clauses top.clause ≡ Some c → c.pred ≡ pred → Stacked t lower rest → Stacked s choices entries
 
 -- the run so far, and how many of its branches were answers
@@ -86,7 +93,7 @@ AtStep p q m stepped.Answer = (m.running ≡ false) × ((b : Branch) × AnswersA
 AtStep p q m (stepped.Stopped w) = StopsAt p q m w
 AtStep p q m stepped.End = EndsAt p q m
 
--- The nodes, of which there may be so many, were too few: for the branch that runs, or for the one that an addition makes.
+-- The nodes, of which there may be so many, were too few: for the branch that runs, or for that which an addition makes.
 pub record FewAt (p : Program) (q : Query) (limit answers nodes : ℕ) : Type 0 where
   pub notes : List Note
   pub used : ℕ
@@ -120,7 +127,8 @@ pub record IsSame (old new : Machine) : Type 0 where
 -- the machine after a step without a resolution
 abbrev pub IsStep : Machine → Machine → Stepped → Type 0
 IsStep old new stepped.Goes = IsSame old new × (work_of new.branch < work_of old.branch)
-IsStep old new stepped.Answer = (new.budget ≡ old.budget) × ((new.answers ≡ old.answers + 1) × ((new.used ≡ old.used) × Keeps old.branch new.branch))
+IsStep old new stepped.Answer =
+    (new.budget ≡ old.budget) × ((new.answers ≡ old.answers + 1) × ((new.used ≡ old.used) × Keeps old.branch new.branch))
 IsStep old new stepped.End = ⊥
 IsStep old new _ = IsSame old new
 

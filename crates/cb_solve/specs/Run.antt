@@ -1,5 +1,5 @@
 -- The run of a query as contracts see it.
-use Rattle.std.specs.Prelude.{◌≡◌, ℕ, ◌+◌, ◌⊎◌, Bool, true, false, List, [], ◌∷◌, ◌++◌, length, Option, Some, None}
+use Rattle.std.specs.Prelude.{◌≡◌, ℕ, ◌+◌, Bool, true, false, List, [], ◌∷◌, ◌++◌, length, Option, Some, None, Result, Ok}
 use Rattle.cb_model.specs.Derivation.{Branch, Entry, Note, Printed, SoFar, Plain, Whole, printed_of}
 use Rattle.cb_model.specs.Derivation as derivation
 use Rattle.cb_model.specs.Outside.{Rose}
@@ -25,8 +25,8 @@ pub record Rest : Type 0 where
   pub used : ℕ
   pub running : Bool
 
--- the branch that runs, the resolutions that it may take, how many answers it gave, the event that was its last, whether it
--- wanted memory, and what is left to try
+-- the branch that runs, the resolutions that it may take, how many answers it gave, the event that was its last, whether
+-- it wanted memory, and what is left to try
 pub record Run : Type 0 where
   pub state : Seen
   pub budget : ℕ
@@ -35,9 +35,27 @@ pub record Run : Type 0 where
   pub starved : Bool
   pub rest : Rest
 
+-- the run of a machine, with its last event
+abbrev pub run_of : Machine → Option Event → Bool → Run
+run_of m over starved = record {
+  state = m.branch;
+  budget = m.budget;
+  answers = m.answers;
+  over = over;
+  starved = starved;
+  rest = record { choices = m.choices.items; used = m.used; running = m.running };
+}
+
 -- the machine of a run, with the choices in this vector
 abbrev pub machine_with : Vec Choice Global → Run → Machine
-machine_with v r = record { branch = r.state; choices = v; budget = r.budget; used = r.rest.used; answers = r.answers; running = r.rest.running }
+machine_with v r = record {
+  branch = r.state;
+  choices = v;
+  budget = r.budget;
+  used = r.rest.used;
+  answers = r.answers;
+  running = r.rest.running;
+}
 
 -- what holds of a run that goes on
 abbrev pub IsEngine : Machine → Option Event → Bool → Type 0
@@ -95,6 +113,18 @@ pub record StopFollows (old : Run) (w : derivation.Budget) : Type 0 where
 abbrev pub NodesFollow : Run → Type 0
 NodesFollow old = FewAt (program_of old.state) (query_of old.state) old.budget old.answers (nodes_of old.state)
 
+-- the same, and a node was refused
+abbrev pub NodesStop : Run → Run → Type 0
+NodesStop old new = NodesFollow old × Rose (fulls_of old.state) (fulls_of new.state)
+
+-- where the event is a stop by a budget of the derivation
+abbrev pub ForStop : {E : Type 0} → Result Event E → (derivation.Budget → Type 0) → Type 0
+ForStop r P = (w : derivation.Budget) → r ≡ Ok (event.Stopped (budget_in w)) → P w
+
+-- where the run was over before, with this event
+abbrev pub WasOver : Run → (Event → Type 0) → Type 0
+WasOver r P = (x : Event) → r.over ≡ Some x → r.starved ≡ false → P x
+
 -- a machine whose branch has not begun
 pub record IsUnbegun (m : Machine) : Type 0 where
   pub nodes : ℕ
@@ -107,8 +137,10 @@ pub record IsUnbegun (m : Machine) : Type 0 where
 
 -- The first stop: the query's own variables are too many, or the nodes for them are too few.
 abbrev pub StopsAtFirst : Seen → Seen → ℕ → Event → Type 0
-StopsAtFirst old new n (event.Stopped budget.Variables) = Plain (program_of old) (query_of old) n [] (derivation.Stopped derivation.Variables)
-StopsAtFirst old new n (event.Stopped budget.Nodes) = FewAt (program_of old) (query_of old) n 0 (nodes_of old) × Rose (fulls_of old) (fulls_of new)
+StopsAtFirst old new n (event.Stopped budget.Variables) =
+    Plain (program_of old) (query_of old) n [] (derivation.Stopped derivation.Variables)
+StopsAtFirst old new n (event.Stopped budget.Nodes) =
+    FewAt (program_of old) (query_of old) n 0 (nodes_of old) × Rose (fulls_of old) (fulls_of new)
 StopsAtFirst old new n _ = ⊥
 
 -- how a run begins, by the event that is its last

@@ -10,10 +10,10 @@ ghost use Rattle.cb_model.specs.Derivation.{Branch};
 ghost use Rattle.cb_model.specs.Derivation as derivation;
 ghost use Rattle.cb_branch.specs.Running.{HasRoom, IsBranch, IsPrinted, fulls_of, program_of, query_of, work_of};
 ghost use Rattle.cb_branch.specs.Scope.{IsRunnable};
-ghost use Rattle.cb_solve.specs.Run.{AnswerFollows, Begins, BeginsWith, EndFollows, IsBegun, IsHeard, IsRun, IsUnbegun, NodesFollow, StopFollows, last_of};
+ghost use Rattle.cb_solve.specs.Run.{AnswerFollows, Begins, EndFollows, ForStop, IsBegun, IsHeard, IsRun, IsUnbegun, NodesStop, StopFollows, WasOver, last_of};
 ghost use Rattle.std.specs.Borrow.{sem};
 ghost use Rattle.cb_solve.specs.Lending.{LendsState, LoanKeepsTheRun};
-ghost use Rattle.cb_solve.specs.Machine.{AtStep, Chooses, Has, HasRoomFor, IsEvent, IsFew, IsHeardOf, IsNext, IsRan, IsSame, IsStep, IsTurn, IsTurned, LeavesNext, MayLeave, OnlyChoices, Resolves, Runs, Stands, TriesAt, budget_in};
+ghost use Rattle.cb_solve.specs.Machine.{AtStep, Chooses, Has, HasRoomFor, IsEvent, IsFew, IsHeardOf, IsNext, IsRan, IsSame, IsStep, IsTurn, IsTurned, LeavesNext, MayLeave, OnlyChoices, Passes, Resolves, Runs, Stands, TriesAt};
 
 use cb_branch::{Call, First, Mark, Running};
 use cb_dd::Stop;
@@ -79,8 +79,7 @@ fn passed(m: &Machine<'_, '_, '_>, resolutions: u32, more: usize) -> Option<Budg
     requires small { more < 2 ^ 63 }
     ensures room { IfNone result (m.now.used + resolutions ≤ m.now.budget) }
     ensures fits { IfNone result (HasRoomFor m.now.branch more) }
-    ensures passed { (b c : Branch) → IsBranch m.now.branch b → bools c.sorts ≡ bools b.sorts + more → c.steps ≡ b.steps + 1
-        → result ≡ option_map budget_in (derivation.passed (program_of m.now.branch) m.now.budget (m.now.used + resolutions) c) }
+    ensures passed { Passes m.now resolutions more result }
 {
     let used = u64::from(m.used) + u64::from(resolutions);
     if u64::from(m.budget) < used {
@@ -356,7 +355,7 @@ pub struct Engine<'p, 's, 'q> {
 }
 
 impl<'p, 's, 'q> Model for Engine<'p, 's, 'q> {
-    ghost use Rattle.cb_solve.specs.Run.{Run};
+    ghost use Rattle.cb_solve.specs.Run.{Run, run_of};
     ghost use Rattle.std.specs.Coded.{codes};
     ghost use Rattle.cb_model.specs.contracts.Clause as clause;
     ghost use Rattle.cb_model.specs.contracts.Goal as goal;
@@ -365,7 +364,7 @@ impl<'p, 's, 'q> Model for Engine<'p, 's, 'q> {
 
     ghost coded = { Prim.hlevel (codes, clause.the_row.coded, goal.the_row.coded) };
 
-    ghost view = { λ e. record { state = e.machine.branch; budget = e.machine.budget; answers = e.machine.answers; over = e.over; starved = e.starved; rest = record { choices = e.machine.choices.items; used = e.machine.used; running = e.machine.running } } };
+    ghost view = { λ e. run_of e.machine e.over e.starved };
 }
 
 // Makes the first branch. The stop, where the query's own variables are too many, or the nodes for them too few.
@@ -424,9 +423,9 @@ impl<'p, 's, 'q> Engine<'p, 's, 'q> {
         requires { IsRun self.old }
         ensures answer { result ≡ Ok Event.Answer → self.old.over ≡ None → AnswerFollows self.old self.new }
         ensures end { result ≡ Ok Event.End → self.old.over ≡ None → EndFollows self.old }
-        ensures stopped { (w : derivation.Budget) → result ≡ Ok (Event.Stopped (budget_in w)) → self.old.over ≡ None → StopFollows self.old w }
-        ensures nodes { result ≡ Ok (Event.Stopped Budget.Nodes) → self.old.over ≡ None → NodesFollow self.old × Rose (fulls_of self.old.state) (fulls_of self.new.state) }
-        ensures again { (x : Event) → self.old.over ≡ Some x → self.old.starved ≡ false → (result ≡ Ok x) × (self.new ≡ self.old) }
+        ensures stopped { ForStop result (λ w. self.old.over ≡ None → StopFollows self.old w) }
+        ensures nodes { result ≡ Ok (Event.Stopped Budget.Nodes) → self.old.over ≡ None → NodesStop self.old self.new }
+        ensures again { WasOver self.old (λ x. (result ≡ Ok x) × (self.new ≡ self.old)) }
         ensures starved { self.old.starved ≡ true → IsErr result × (self.new ≡ self.old) }
         ensures over { IfOk result (λ x. self.old.over ≡ None → self.new.over ≡ last_of x) }
         ensures refused { OnErr result (self.new.starved ≡ true) }

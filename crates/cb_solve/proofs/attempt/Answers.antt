@@ -1,4 +1,4 @@
-use Rattle.std.proofs.Common.{refl, ap, Ok, Err, false}
+use Rattle.std.proofs.Common.{refl, false}
 use Rattle.cb_model.specs.Program.{Program}
 use Rattle.cb_model.specs.Derivation.{Query}
 use Rattle.cb_solve.specs.Machine.{TriesAt}

@@ -1,4 +1,4 @@
-use Rattle.std.proofs.Common.{◌≡◌, ◌+◌, ◌≤◌, ◌<◌, refl, ap, sym, arith, Ok, Err}
+use Rattle.std.proofs.Common.{arith}
 use Rattle.cb_solve.proofs.Starts.{begun-few, begun-goes, begun-variables}
 use Rattle.cb_solve.proofs.begin.Goals as goal
 

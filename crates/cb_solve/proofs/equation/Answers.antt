@@ -1,6 +1,5 @@
-use Rattle.std.proofs.Common.{refl, ap, Ok, Err}
+use Rattle.std.proofs.Common.{refl, ap, Ok}
 use Rattle.std.specs.Prelude.{Bool}
-use Rattle.cb_dd.specs.declared.Stop.{Stop}
 use Rattle.cb_solve.proofs.Adds.{same-self, equal-made, equal-adds, adding-stops, adding-few, adding-goes, adding-fails, err-as}
 use Rattle.cb_solve.proofs.equation.Goals as goal
 

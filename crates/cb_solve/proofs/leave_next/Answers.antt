@@ -1,4 +1,4 @@
-use Rattle.std.proofs.Common.{refl, ap, Ok, Err}
+use Rattle.std.proofs.Common.{refl}
 use Rattle.cb_solve.proofs.Resolving.{leaves-none, leaves-some}
 use Rattle.cb_branch.specs.Running.{program_of}
 use Rattle.cb_solve.proofs.Clauses.{got-below}

@@ -1,4 +1,4 @@
-use Rattle.std.proofs.Common.{◌≡◌, ◌+◌, ◌≤◌, refl, arith}
+use Rattle.std.proofs.Common.{arith}
 use Rattle.cb_solve.proofs.Starts.{room-for}
 use Rattle.cb_solve.proofs.passed.Goals as goal
 

@@ -1,4 +1,4 @@
-use Rattle.std.proofs.Common.{refl, ap, Ok, Err, Bool}
+use Rattle.std.proofs.Common.{refl, ap, Ok, Bool}
 use Rattle.cb_branch.specs.Running.{program_of, query_of}
 use Rattle.cb_solve.proofs.Adds.{err-as}
 use Rattle.cb_solve.proofs.Resolving.{resolve-goes, resolve-fails, resolve-few}

@@ -1,8 +1,8 @@
-use Rattle.std.proofs.Common.{◌≡◌, ◌+◌, List, [], refl, ap, Ok, Err, sym, ◌∙◌, arith, length}
+use Rattle.std.proofs.Common.{◌≡◌, ◌+◌, [], refl, ap, ◌∙◌, arith}
 use Rattle.std.proofs.lemmas.Grind.{common_steps}
 use Rattle.std.proofs.lemmas.List.{nil_from_length}
 use Rattle.cb_branch.specs.Running.{Seen, program_of, query_of}
-use Rattle.cb_solve.proofs.Resolving.{popped, retry-ends, retry-stops, retry-resolves, same-asked, same-program, same-query, same-source, same-nodes, same-fulls, back-run, leave-back, few-from, turn-at, turn-of, there-back, is-back}
+use Rattle.cb_solve.proofs.Resolving.{popped, retry-ends, retry-stops, retry-resolves, same-asked, same-program, same-query, same-source, same-nodes, same-fulls, back-run, leave-back, few-from, turn-at, turn-of, there-back}
 use Rattle.cb_solve.proofs.Clauses.{got-below}
 use Rattle.cb_solve.proofs.retry.Goals as goal
 

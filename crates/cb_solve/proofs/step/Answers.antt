@@ -1,4 +1,4 @@
-use Rattle.std.proofs.Common.{refl, ap, Ok, Err}
+use Rattle.std.proofs.Common.{refl}
 use Rattle.cb_model.specs.declared.Goal.TheVariants as goals
 use Rattle.cb_branch.proofs.Laws.{keeps-refl}
 use Rattle.cb_solve.proofs.Chosen.{answer-at, true-runs, fail-tries}

@@ -1,4 +1,4 @@
-use Rattle.std.proofs.Common.{refl, ap, Ok, Err}
+use Rattle.std.proofs.Common.{refl}
 use Rattle.cb_solve.specs.declared.Stepped.TheVariants as stepped
 use Rattle.cb_solve.proofs.Turns.{few-ran, turned-answer, turned-ran, turned-stopped}
 use Rattle.cb_solve.proofs.turn.Goals as goal

@@ -1,4 +1,4 @@
-use Rattle.std.proofs.Common.{◌≡◌, ◌+◌, ◌++◌, List, [], ◌∷◌, Ok, Err, refl, sym, ap, append-nil, rules}
+use Rattle.std.proofs.Common.{[], ◌∷◌, sym, ap, append-nil, rules}
 use Rattle.std.specs.Prelude.{Result}
 use Rattle.cb_dd.specs.declared.Stop.{Stop}
 use Rattle.cb_items.specs.Items.{wants_nodes}

@@ -1,6 +1,6 @@
-use Rattle.std.proofs.Common.{List, [], ◌<◌, length, refl, sym, append-nil, arith}
+use Rattle.std.proofs.Common.{List, [], sym, append-nil, arith}
 use Rattle.cb_model.specs.declared.Goal.TheVariants as goal_is
-use Rattle.std.proofs.Common.{ℕ, ap, Err, ◌∙◌}
+use Rattle.std.proofs.Common.{ap, ◌∙◌}
 use Rattle.cb_model.specs.declared.Tree.{Tree}
 use Rattle.std.specs.Prelude.{Result}
 use Rattle.cb_dd.specs.declared.Stop.{Stop}

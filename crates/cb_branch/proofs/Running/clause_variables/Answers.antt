@@ -1,5 +1,4 @@
 use Rattle.cb_branch.proofs.Looks.{clause-count, clause-inside}
-use Rattle.cb_sorts.specs.Source.{Source}
 use Rattle.cb_branch.proofs.Running.clause_variables.Goals as goal
 
 pub clause-requires : goal.clause-requires

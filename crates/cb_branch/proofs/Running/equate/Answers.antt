@@ -1,6 +1,6 @@
-use Rattle.std.proofs.Common.{◌≡◌, ◌++◌, List, [], Bool, Ok, Err, true, false, refl, sym, ap, append-nil}
+use Rattle.std.proofs.Common.{[], Bool, Ok, sym, ap, append-nil}
 use Rattle.cb_model.specs.declared.Goal.TheVariants as goal_is
-use Rattle.std.proofs.Common.{◌<◌, ◌≤◌, length, arith}
+use Rattle.std.proofs.Common.{arith}
 use Rattle.std.specs.Prelude.{Result}
 use Rattle.cb_dd.specs.declared.Stop.{Stop}
 use Rattle.cb_items.specs.Items.{wants_nodes}

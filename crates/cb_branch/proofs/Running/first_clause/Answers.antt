@@ -1,4 +1,3 @@
-use Rattle.std.proofs.Common.{◌∙◌}
 use Rattle.cb_branch.proofs.Looks.{first-is, names-inside}
 use Rattle.cb_branch.proofs.Laws.{call-named}
 use Rattle.cb_branch.proofs.Running.first_clause.Goals as goal

@@ -1,4 +1,4 @@
-use Rattle.std.proofs.Common.{◌≡◌, length, arith}
+use Rattle.std.proofs.Common.{arith}
 use Rattle.cb_branch.proofs.Looks.{mark-is}
 use Rattle.cb_branch.proofs.Calls.{state-here}
 use Rattle.cb_branch.proofs.Running.mark.Goals as goal

@@ -1,5 +1,3 @@
-use Rattle.std.proofs.Common.{◌≡◌, ◌∙◌, ◌+◌, ap, arith}
-use Rattle.cb_branch.specs.Running.{Seen, program_of, query_of}
 use Rattle.cb_branch.proofs.Looks.{query-count}
 use Rattle.cb_branch.proofs.Running.query_variables.Goals as goal
 

@@ -1,4 +1,4 @@
-use Rattle.std.proofs.Common.{Bool, ◌≡◌, ◌+◌, ◌<◌, ◌≤◌, ◌++◌, List, [], ◌∷◌, length, Ok, Err, refl, sym, ap, append-nil, arith, rules}
+use Rattle.std.proofs.Common.{Bool, [], ◌∷◌, sym, ap, append-nil, arith}
 use Rattle.std.specs.Prelude.{Result}
 use Rattle.cb_dd.specs.declared.Stop.{Stop}
 use Rattle.cb_items.specs.Items.{wants_nodes}

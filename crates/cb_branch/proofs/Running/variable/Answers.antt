@@ -1,4 +1,4 @@
-use Rattle.std.proofs.Common.{◌≡◌, ◌<◌, ◌+◌, ℕ, length, arith}
+use Rattle.std.proofs.Common.{arith}
 use Rattle.cb_branch.proofs.Showing.{frame-inside, number-inside, shown}
 use Rattle.cb_branch.proofs.Running.variable.Goals as goal
 

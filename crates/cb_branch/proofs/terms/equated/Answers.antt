@@ -1,4 +1,4 @@
-use Rattle.std.proofs.Common.{◌≡◌, ◌∙◌, ◌≤◌, arith, rules}
+use Rattle.std.proofs.Common.{◌∙◌, arith, rules}
 use Rattle.cb_items.specs.Items.{wants_nodes}
 use Rattle.cb_items.proofs.Additions.{keeps-budget}
 use Rattle.cb_branch.proofs.Cells.{buildable-later, equation-adds, equation-made, equation-none, refuses-then, sort-there, there-later}

@@ -1,4 +1,3 @@
-use Rattle.std.proofs.Common.{◌≡◌, ◌∙◌, ◌≤◌, arith, rules}
 use Rattle.cb_model.specs.declared.Sort.TheVariants as sort
 use Rattle.cb_items.specs.Items.{wants_nodes}
 use Rattle.cb_items.proofs.Additions.{keeps-budget}

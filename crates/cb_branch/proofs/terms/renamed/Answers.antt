@@ -1,7 +1,5 @@
-use Rattle.std.proofs.Common.{◌≡◌, ◌∙◌, ◌≤◌, arith, rules, ap, Ok, Bool}
-use Rattle.cb_items.specs.Items.{wants_nodes}
-use Rattle.cb_items.proofs.Additions.{keeps-budget}
-use Rattle.cb_branch.proofs.Cells.{head-buildable, refuses-then, renamed-no, renamed-yes, there-later}
+use Rattle.std.proofs.Common.{ap, Ok, Bool}
+use Rattle.cb_branch.proofs.Cells.{head-buildable, renamed-no, renamed-yes, there-later}
 use Rattle.cb_branch.proofs.terms.renamed.Goals as goal
 
 pub headed-requires-clause-call : goal.headed-requires-clause-call

@@ -1,4 +1,3 @@
-use Rattle.std.proofs.Common.{◌≡◌}
 use Rattle.cb_solve.proofs.Starts.{engine-begins, fresh-unbegun}
 use Rattle.cb_solve.proofs.Engine.new.Goals as goal
 

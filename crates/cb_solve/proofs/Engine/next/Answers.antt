@@ -1,4 +1,4 @@
-use Rattle.std.proofs.Common.{◌≡◌, Ok, Err}
+use Rattle.std.proofs.Common.{◌≡◌}
 use Rattle.cb_solve.specs.declared.Event.TheVariants as event
 use Rattle.cb_solve.specs.declared.Budget.TheVariants as budget
 use Rattle.cb_solve.proofs.Answering.{answer-follows}
