@@ -1,14 +1,12 @@
 -- The bits that the pairs of a store's range give the slots of an answer's leaves are those that the solutions of the
 -- branch's equations give the leaves of its shape.
-use Rattle.std.proofs.Common.{◌≡◌, ◌↔◌, ℕ, suc, ◌+◌, ◌<◌, ◌≤◌, Bool, List, [], ◌∷◌, ◌++◌, map, length, get_or, refl, sym, ap, subst, ◌∙◌, arith}
-use Rattle.std.specs.Prelude.{slice_get}
+use Rattle.std.proofs.Common.{◌≡◌, ◌↔◌, ℕ, suc, ◌<◌, ◌≤◌, Bool, List, [], ◌∷◌, ◌++◌, map, length, get_or, refl, sym, ap, subst, ◌∙◌, arith}
 use Rattle.std.proofs.Math.Path.{fun_ext}
 use Rattle.std.proofs.lemmas.Option.{get_or_from_slice_get}
-use Rattle.cb_model.specs.declared.Sort.{Sort}
 use Rattle.cb_model.specs.declared.Sort.TheVariants as sort
 use Rattle.cb_model.specs.declared.Tree.{Tree}
 use Rattle.cb_model.specs.Bits.{Bits}
-use Rattle.cb_model.specs.Values.{Fits, World, Valuation, IsValuation, grounds}
+use Rattle.cb_model.specs.Values.{Fits, World, Valuation, grounds}
 use Rattle.cb_model.specs.Equations.{Item, Meets}
 use Rattle.cb_model.specs.Answers.{BitsFrom, IsShape, values}
 use Rattle.cb_model.specs.Answers.{Gives as Shows}

@@ -1,5 +1,5 @@
 -- The values of the printed terms, by the bits of the slots and the values of the unbound cells.
-use Rattle.std.proofs.Common.{◌≡◌, ℕ, zero, suc, ◌<◌, Bool, false, List, [], ◌∷◌, ◌++◌, map, length, get_or, Option, Some, None, pos, refl, sym, ap, subst, ◌∙◌, arith}
+use Rattle.std.proofs.Common.{◌≡◌, ℕ, zero, suc, Bool, List, [], ◌∷◌, ◌++◌, map, get_or, Option, Some, None, pos, refl, sym, ap, subst, ◌∙◌, arith}
 use Rattle.std.specs.Prelude.{slice_get}
 use Rattle.std.proofs.lemmas.Option.{slice_get_within, slice_get-get_or}
 use Rattle.std.proofs.lemmas.List.{append-nil}
@@ -9,7 +9,7 @@ use Rattle.cb_model.specs.declared.Expr.TheVariants as expr
 use Rattle.cb_model.specs.declared.Tree.{Tree}
 use Rattle.cb_model.specs.Bits.{Bits}
 use Rattle.cb_model.specs.Text.{Text}
-use Rattle.cb_model.specs.Values.{Ground, Bit, Word, Int, Name, grounds, Sorts, Fits, Valuation, IsValuation, tree_value}
+use Rattle.cb_model.specs.Values.{Ground, Bit, Word, Int, Name, grounds, Sorts, Fits, Valuation, tree_value}
 use Rattle.cb_model.specs.Answers.{values}
 use Rattle.cb_model.specs.Program.{Program}
 use Rattle.cb_model.specs.Derivation.{Branch, Waiting}

@@ -1,5 +1,5 @@
 -- The terms of the printed variables' cells, renumbered, are the shape.
-use Rattle.std.proofs.Common.{◌≡◌, ℕ, false, Option, Some, None, refl, sym, ap, subst, ◌∙◌, List}
+use Rattle.std.proofs.Common.{◌≡◌, ℕ, false, Option, Some, refl, sym, ap, subst, ◌∙◌, List}
 use Rattle.std.specs.Prelude.{slice_get}
 use Rattle.cb_model.specs.declared.Sort.{Sort}
 use Rattle.cb_model.specs.declared.Sort.TheVariants as sort

@@ -1,5 +1,5 @@
 -- The bits of the levels, from those of the constants and the parameters.
-use Rattle.std.proofs.Common.{◌≡◌, ℕ, zero, suc, ◌+◌, ◌-◌, ◌<◌, ◌≤◌, Bool, List, [], ◌∷◌, map, refl, sym, ap, ap₂, ◌∙◌, arith, lt-ltb}
+use Rattle.std.proofs.Common.{◌≡◌, ℕ, zero, suc, ◌+◌, ◌-◌, ◌<◌, ◌≤◌, Bool, List, [], ◌∷◌, map, refl, ap, ap₂, ◌∙◌, arith, lt-ltb}
 use Rattle.std.proofs.lemmas.Bool.{le-ltb}
 use Rattle.cb_model.specs.Bits.{Bits, numbers_from}
 use Rattle.cb_model.specs.Line.{parameters}

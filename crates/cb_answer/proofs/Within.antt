@@ -1,5 +1,5 @@
 -- The parametric form is the same for relations that are the same up to its length.
-use Rattle.std.proofs.Common.{◌≡◌, ◌↔◌, inl, inr, ℕ, suc, ◌+◌, ◌≤◌, Bool, List, [], ◌∷◌, ◌++◌, length, arith, length-append}
+use Rattle.std.proofs.Common.{◌↔◌, inl, inr, ℕ, ◌+◌, ◌≤◌, Bool, List, [], ◌∷◌, ◌++◌, length, arith, length-append}
 use Rattle.cb_model.specs.Answers.{Picks, Gen}
 
 module _ (R Q : List Bool → Type 0) (n : ℕ) (same : (bits : List Bool) → length bits ≤ n → R bits ↔ Q bits) where

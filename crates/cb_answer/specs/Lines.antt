@@ -16,9 +16,10 @@ use Rattle.cb_shape.specs.Terms.{how_many}
 use Rattle.cb_shape.specs.Tokens.{IsShown}
 use Rattle.cb_shape.specs.declared.Token.{Token}
 use Rattle.cb_shape.specs.declared.Token.TheVariants as token
-use Rattle.cb_shape.specs.Text.{line_start, tokens_text}
+use Rattle.cb_shape.specs.Text.{line_start, token_text, tokens_text}
 use Rattle.cb_answer.specs.declared.Item.{Item}
 use Rattle.cb_answer.specs.declared.Item.TheVariants as item
+use Rattle.cb_answer.specs.declared.pieces.Told.{Told}
 
 -- the printed variables; their numbers are not printed
 abbrev pub item_name : Item → ℕ × Text
@@ -64,3 +65,39 @@ pub record AreTold (items leaves : ℕ) (ps : Plains) (s : Printed) : Type 0 whe
 -- the line of the shape of terms, with a parametric form for its leaves
 abbrev pub form_line : ℕ → Names → Plains → ℕ → List Function → Text
 form_line c names ps first gens = lines_text (line_text c names (shape_of ps) (spread_all c first gens) ∷ [])
+
+-- ---- what a line is told from, with what its names say by number
+
+-- the names that it reads
+abbrev pub told_names : {N : Type 0} → (N → List Text) → (N → List Text) → Told N → Names
+told_names names constants t = line_names (names t.names.now) (constants t.names.now) t.items.now
+
+-- the functions of its leaves
+abbrev pub told_gens : {N : Type 0} → Told N → List Function
+told_gens t = functions_of t.ops.now.triples t.form.now.nodes
+
+-- its nodes are those of a parametric form
+abbrev pub HasForm : {N : Type 0} → Told N → Type 0
+HasForm t = IsForm t.ops.now.triples t.constants t.form.now.first t.form.now.nodes
+
+-- it has the items and the leaves of these terms
+abbrev pub TellsOf : {N : Type 0} → Told N → Plains → Printed → Type 0
+TellsOf t ps printed = AreTold (length t.items.now) (length t.form.now.nodes) ps printed
+
+-- it has the items and the leaves of the piece
+abbrev pub HasToken : {N : Type 0} → Told N → Token → Type 0
+HasToken t x = IsNumbered (length t.items.now) (length t.form.now.nodes) x
+
+-- the text of a leaf, of a piece, and of pieces
+abbrev pub told_leaf : {N : Type 0} → (N → List Text) → (N → List Text) → Told N → ℕ → Text
+told_leaf names constants t = form_leaf t.constants (told_names names constants t) t.form.now.first (told_gens t)
+
+abbrev pub told_token : {N : Type 0} → (N → List Text) → (N → List Text) → Told N → Token → Text
+told_token names constants t = token_text (told_names names constants t) (told_leaf names constants t)
+
+abbrev pub told_text : {N : Type 0} → (N → List Text) → (N → List Text) → Told N → List Token → Text
+told_text names constants t = form_text t.constants (told_names names constants t) t.form.now.first (told_gens t)
+
+-- the line of terms
+abbrev pub told_line : {N : Type 0} → (N → List Text) → (N → List Text) → Told N → Plains → Text
+told_line names constants t ps = form_line t.constants (told_names names constants t) ps t.form.now.first (told_gens t)

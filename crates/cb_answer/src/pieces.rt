@@ -5,9 +5,8 @@ ghost use Rattle.std.specs.Fmt.{signed_decimal};
 ghost use Rattle.cb_model.specs.Bits.{Each};
 ghost use Rattle.cb_model.specs.Line.{open_text};
 ghost use Rattle.cb_laws.proofs.OpenTrees.{Plains};
-ghost use Rattle.cb_project.specs.Leaves.{functions_of};
-ghost use Rattle.cb_shape.specs.Text.{line_start, term_start, token_text};
-ghost use Rattle.cb_answer.specs.Lines.{AreTold, IsForm, IsNumbered, form_leaf, form_line, form_text, item_name, line_names, printed_of};
+ghost use Rattle.cb_shape.specs.Text.{line_start, term_start};
+ghost use Rattle.cb_answer.specs.Lines.{HasForm, HasToken, TellsOf, item_name, printed_of, told_leaf, told_line, told_text, told_token};
 
 use crate::Item;
 use cb_ops::Ops;
@@ -79,10 +78,9 @@ fn push_leaf<N: Names>(
     told: &Told<'_, N>,
     number: usize,
 ) -> Result<(), AllocError>
-    requires form { IsForm told.now.ops.now.triples told.now.constants told.now.form.now.first told.now.form.now.nodes }
+    requires form { HasForm told.now }
     requires there { number < length told.now.form.now.nodes }
-    ensures { OnOk result (line.new.items ≡ line.old.items
-        ++ form_leaf told.now.constants (line_names (N.names told.now.names.now) (N.constants told.now.names.now) told.now.items.now) told.now.form.now.first (functions_of told.now.ops.now.triples told.now.form.now.nodes) number) }
+    ensures { OnOk result (line.new.items ≡ line.old.items ++ told_leaf N.names N.constants told.now number) }
 {
     let node = told.form.nodes.as_slice()[number];
     push_value(
@@ -103,10 +101,9 @@ fn push_token<N: Names>(
     told: &Told<'_, N>,
     token: Token,
 ) -> Result<(), AllocError>
-    requires form { IsForm told.now.ops.now.triples told.now.constants told.now.form.now.first told.now.form.now.nodes }
-    requires numbered { IsNumbered (length told.now.items.now) (length told.now.form.now.nodes) token }
-    ensures { OnOk result (line.new.items ≡ line.old.items
-        ++ token_text (line_names (N.names told.now.names.now) (N.constants told.now.names.now) told.now.items.now) (form_leaf told.now.constants (line_names (N.names told.now.names.now) (N.constants told.now.names.now) told.now.items.now) told.now.form.now.first (functions_of told.now.ops.now.triples told.now.form.now.nodes)) token) }
+    requires form { HasForm told.now }
+    requires numbered { HasToken told.now token }
+    ensures { OnOk result (line.new.items ≡ line.old.items ++ told_token N.names N.constants told.now token) }
 {
     match token {
         Token::Term(place) => push_start(line, told.items, place)?,
@@ -140,10 +137,9 @@ fn text_of<N: Names>(
     told: &Told<'_, N>,
     tokens: &[Token],
 ) -> Result<Vec<u8>, AllocError>
-    requires form { IsForm told.now.ops.now.triples told.now.constants told.now.form.now.first told.now.form.now.nodes }
-    requires numbered { Each (IsNumbered (length told.now.items.now) (length told.now.form.now.nodes)) tokens.now }
-    ensures { IfOk result (λ t. t.items
-        ≡ form_text told.now.constants (line_names (N.names told.now.names.now) (N.constants told.now.names.now) told.now.items.now) told.now.form.now.first (functions_of told.now.ops.now.triples told.now.form.now.nodes) tokens.now) }
+    requires form { HasForm told.now }
+    requires numbered { Each (HasToken told.now) tokens.now }
+    ensures { IfOk result (λ t. t.items ≡ told_text N.names N.constants told.now tokens.now) }
 {
     let mut line = begun(alloc, told.items)?;
     for place in 0..tokens.len() {
@@ -158,10 +154,10 @@ pub fn line<N: Names>(
     told: &Told<'_, N>,
     printed: &Printed,
 ) -> Result<Vec<u8>, AllocError>
-    requires form { IsForm told.now.ops.now.triples told.now.constants told.now.form.now.first told.now.form.now.nodes }
-    requires terms { (ps : Plains) × AreTold (length told.now.items.now) (length told.now.form.now.nodes) ps printed.now }
-    ensures { IfOk result (λ t. (ps : Plains) → AreTold (length told.now.items.now) (length told.now.form.now.nodes) ps printed.now → t.items
-        ≡ form_line told.now.constants (line_names (N.names told.now.names.now) (N.constants told.now.names.now) told.now.items.now) ps told.now.form.now.first (functions_of told.now.ops.now.triples told.now.form.now.nodes)) }
+    requires form { HasForm told.now }
+    requires terms { (ps : Plains) × TellsOf told.now ps printed.now }
+    ensures { IfOk result (λ t. (ps : Plains) → TellsOf told.now ps printed.now →
+        t.items ≡ told_line N.names N.constants told.now ps) }
 {
     let mut text = text_of(alloc, told, &printed.tokens)?;
     text.push(b'\n')?;

@@ -33,8 +33,10 @@ pub fn answer<S: Sink, N: Names>(
     names: &N,
 ) -> Result<(), ShowError>
     requires tellable { IsTellable state.old items.now }
-    ensures written { OnOk result (WroteLine (IsLineFor (N.names names.now) (N.constants names.now) state.old items.now) (S.written out.old) (S.written out.new)) }
-    ensures front { (e : Failed) → result ≡ Err (ShowError.Failed e) → WroteFront (IsLineFor (N.names names.now) (N.constants names.now) state.old items.now) (S.written out.old) (S.written out.new) }
+    ensures written { OnOk result (WroteLine (IsLineFor (N.names names.now) (N.constants names.now) state.old items.now)
+        (S.written out.old) (S.written out.new)) }
+    ensures front { (e : Failed) → result ≡ Err (ShowError.Failed e) →
+        WroteFront (IsLineFor (N.names names.now) (N.constants names.now) state.old items.now) (S.written out.old) (S.written out.new) }
     ensures nothing { (x : Stop) → result ≡ Err (ShowError.Stop x) → out.new ≡ out.old }
     ensures as_before { IsAsBefore state.old state.new }
     ensures nodes { result ≡ Err (ShowError.Stop Stop.Nodes) → WantsNodes state.old state.new items.now }
