@@ -1,3 +1,2 @@
 pub mod Moments
 mod Constants
-mod Tried

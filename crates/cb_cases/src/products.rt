@@ -24,7 +24,7 @@ fn product(alloc: Global) -> Result<Expr, AllocError>
 }
 
 // Adds the equation of two expressions over these variables.
-fn equate_expressions(
+pub(crate) fn equate_expressions(
     store: &mut Store,
     f: &Expr,
     g: &Expr,

@@ -1,3 +1,5 @@
+pub mod Plain
+pub mod Accepted
 pub mod Steps
 pub mod Telling
 pub mod Writing

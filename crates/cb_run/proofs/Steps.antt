@@ -10,15 +10,12 @@ use Rattle.cb_model.specs.Written.{query_written}
 use Rattle.cb_model.specs.declared.Outcome.{Outcome}
 use Rattle.cb_model.specs.declared.Outcome.TheVariants as outcome
 use Rattle.cb_model.specs.declared.Side.TheVariants as side
-use Rattle.cb_model.specs.Text.{Text}
+use Rattle.cb_model.specs.Text.{Text, lines_text}
 use Rattle.cb_model.specs.Commands.{Nodes, budget_of}
 use Rattle.cb_model.specs.Grammar.{FormClause, FormQuery}
 use Rattle.cb_model.specs.Directives as dir
 use Rattle.cb_model.specs.Directives.{Refusal, SortClash, Unknown, heads}
 use Rattle.cb_model.specs.Loading.{query_body, module_names}
-use Rattle.cb_model.specs.Program.{Program}
-use Rattle.cb_model.specs.Derivation.{Query}
-use Rattle.cb_model.specs.Line.{Names}
 use Rattle.cb_model.specs.Outside.{Wrote}
 use Rattle.cb_model.specs.Output.{QueriesRefusal, passes, stops}
 use Rattle.cb_rules.specs.Refused.{RefusesBody}
@@ -26,11 +23,10 @@ use Rattle.cb_directives.specs.declared.fault.LoadError.{LoadError}
 use Rattle.cb_directives.specs.declared.fault.LoadError.TheVariants as fault
 use Rattle.cb_sorts.specs.Source.{Source}
 use Rattle.cb_sorts.specs.Asked.{Asked, Asks}
-use Rattle.cb_queries.specs.Told.{IsOf, Tells}
+use Rattle.cb_tell.specs.Told.{IsTold, BreaksOff}
 use Rattle.cb_accept.specs.Refusals.{without_circuits}
-use Rattle.cb_run.specs.Running.{TellsAsked, AllTell, no_text, more_text, AllBegin, no_text_yet, within, behind, BreaksAfter, AllAsk, none_asked, more_asked, RefusesQueries}
+use Rattle.cb_run.specs.Running.{TellsAsked, AllTell, no_lines, more_lines, AllBegin, within, behind, BreaksAfter, AllAsk, none_asked, more_asked, RefusesQueries}
 use Rattle.cb_host.proofs.Writes.{Wrote-none, Wrote-then}
-use Rattle.cb_lines.proofs.Writing.{prefix-of}
 
 -- ---- what is asked
 
@@ -62,15 +58,9 @@ refuses-one cs s qs q left ones fault.Memory so h = tt
 
 -- ---- what is told
 
--- so many first queries are told and their texts are written
-pub record ToldSoFar (s : Source) (nodes : Nodes) (ones left : List Asked) (start now : Option Text) (stopped : Bool) : Type 0 where
-  pub text : Text
-  pub wrote : Wrote start now text
-  pub tells : (rest : Text) (y : Bool) → AllTell s nodes left rest y → AllTell s nodes ones (text ++ rest) (stopped || y)
-  pub begins : (rest : Text) → AllBegin s nodes left rest → AllBegin s nodes ones (text ++ rest)
-
-pub told-none : (s : Source) (nodes : Nodes) (ones : List Asked) (now : Option Text) → ToldSoFar s nodes ones ones now now false
-told-none s nodes ones now = record { text = []; wrote = Wrote-none now; tells = λ rest y h. h; begins = λ rest h. h }
+text-append : (xs ys : List Text) → lines_text (xs ++ ys) ≡ lines_text xs ++ lines_text ys
+text-append [] ys = refl
+text-append (x ∷ xs) ys = ap (λ t. x ++ (10 ∷ t)) (text-append xs ys) ∙ sym (append_assoc x (10 ∷ lines_text xs) (lines_text ys))
 
 or-assoc : (x y z : Bool) → (x || (y || z)) ≡ ((x || y) || z)
 or-assoc true y z = refl
@@ -80,44 +70,47 @@ or-false : (x : Bool) → (x || false) ≡ x
 or-false true = refl
 or-false false = refl
 
-module _ (s : Source) (nodes : Nodes) (ones : List Asked) (start : Option Text) where
-  pub told-more : (a : Asked) (left : List Asked) (now then : Option Text) (stopped x : Bool) (t : Text) → ToldSoFar s nodes ones (a ∷ left) start now stopped →
-      TellsAsked s nodes a t x → Wrote now then t → ToldSoFar s nodes ones left start then (stopped || x)
-  told-more a left now then stopped x t so k w = record {
-    text = so.text ++ t;
-    wrote = Wrote-then start now then so.text t so.wrote w;
+module _ (s : Source) (resolutions : ℕ) (nodes : Nodes) (ones : List Asked) (start : Option Text) where
+  -- so many first queries are told and their lines are written
+  pub record ToldSoFar (left : List Asked) (now : Option Text) (stopped : Bool) : Type 0 where
+    pub lines : List Text
+    pub wrote : Wrote start now (lines_text lines)
+    pub tells : (rest : List Text) (y : Bool) → AllTell s resolutions nodes left rest y → AllTell s resolutions nodes ones (lines ++ rest) (stopped || y)
+    pub begins : (rest : Text) → AllBegin s resolutions nodes left rest → AllBegin s resolutions nodes ones (lines_text lines ++ rest)
+
+  pub told-more : (a : Asked) (left : List Asked) (now then : Option Text) (stopped x : Bool) (ls : List Text) → ToldSoFar (a ∷ left) now stopped →
+      TellsAsked s resolutions nodes a ls x → Wrote now then (lines_text ls) → ToldSoFar left then (stopped || x)
+  told-more a left now then stopped x ls so k w = record {
+    lines = so.lines ++ ls;
+    wrote = subst (Wrote start then) (sym (text-append so.lines ls)) (Wrote-then start now then (lines_text so.lines) (lines_text ls) so.wrote w);
     tells = λ rest y h.
-        subst (AllTell s nodes ones ((so.text ++ t) ++ rest)) (or-assoc stopped x y)
-        (subst (λ u. AllTell s nodes ones u (stopped || (x || y))) (sym (append_assoc so.text t rest)) (so.tells (t ++ rest) (x || y) (more_text t rest x y k h refl refl)));
-    begins = λ rest h. subst (AllBegin s nodes ones) (sym (append_assoc so.text t rest)) (so.begins (t ++ rest) (behind t rest x k h refl));
+        subst (AllTell s resolutions nodes ones ((so.lines ++ ls) ++ rest)) (or-assoc stopped x y)
+        (subst (λ u. AllTell s resolutions nodes ones u (stopped || (x || y))) (sym (append_assoc so.lines ls rest)) (so.tells (ls ++ rest) (x || y) (more_lines ls rest x y k h refl refl)));
+    begins = λ rest h.
+        subst (AllBegin s resolutions nodes ones) (sym (ap (λ t. t ++ rest) (text-append so.lines ls) ∙ append_assoc (lines_text so.lines) (lines_text ls) rest))
+        (so.begins (lines_text ls ++ rest) (behind ls x rest k h refl));
   }
 
-  pub told-all : (now : Option Text) (stopped : Bool) → ToldSoFar s nodes ones [] start now stopped → (text : Text) × (AllTell s nodes ones text stopped × Wrote start now text)
-  told-all now stopped so =
-      (so.text, (subst (AllTell s nodes ones so.text) (or-false stopped) (subst (λ u. AllTell s nodes ones u (stopped || false)) (append-nil so.text) (so.tells [] false no_text)), so.wrote))
+  pub told-all : (now : Option Text) (stopped : Bool) → ToldSoFar [] now stopped → (lines : List Text) × (AllTell s resolutions nodes ones lines stopped × Wrote start now (lines_text lines))
+  told-all now stopped so = (
+    so.lines,
+    (
+      subst (AllTell s resolutions nodes ones so.lines) (or-false stopped) (subst (λ u. AllTell s resolutions nodes ones u (stopped || false)) (append-nil so.lines) (so.tells [] false no_lines)),
+      so.wrote,
+    ),
+  )
 
-  pub told-breaks : (a : Asked) (left : List Asked) (now then : Option Text) (stopped : Bool) (o : Outcome) → ToldSoFar s nodes ones (a ∷ left) start now stopped →
-      BreaksAfter (λ text. (rest : List Asked) → AllBegin s nodes (a ∷ rest) text) now then o → BreaksAfter (AllBegin s nodes ones) start then o
-  told-breaks a left now then stopped o so b = record {
-    text = so.text ++ b.text;
-    beginning = so.begins b.text (b.beginning left);
-    wrote = Wrote-then start now then so.text b.text so.wrote b.wrote;
+  pub told-breaks : (a : Asked) (left : List Asked) (now then : Option Text) (stopped : Bool) (o : Outcome) (budget : ℕ) → budget ≡ budget_of nodes → ToldSoFar (a ∷ left) now stopped →
+      BreaksOff s a resolutions budget now then o → BreaksAfter (AllBegin s resolutions nodes ones) start then o
+  told-breaks a left now then stopped o budget e so b = record {
+    text = lines_text so.lines ++ b.text;
+    beginning = so.begins b.text (within (b.begins nodes (sym e)));
+    wrote = Wrote-then start now then (lines_text so.lines) b.text so.wrote b.wrote;
     cause = b.cause;
   }
 
--- one query whose memory was wanting
-pub one-wanting : (s : Source) (nodes : Nodes) (a : Asked) (now : Option Text) → BreaksAfter (λ text. (rest : List Asked) → AllBegin s nodes (a ∷ rest) text) now now outcome.Memory
-one-wanting s nodes a now = record { text = []; beginning = λ rest. no_text_yet refl; wrote = Wrote-none now; cause = inl refl }
-
--- one query that was told, and the sink failed
-pub one-broken : (s : Source) (nodes : Nodes) (a : Asked) (start now : Option Text) (text : Text) (x : Bool) (n : ℕ) → TellsAsked s nodes a text x → Wrote start now (take n text) →
-    BreaksAfter (λ t. (rest : List Asked) → AllBegin s nodes (a ∷ rest) t) start now (outcome.Fault side.Output)
-one-broken s nodes a start now text x n k w = record { text = take n text; beginning = λ rest. within text x k (prefix-of n text); wrote = w; cause = inr refl }
-
--- a text for a budget
-pub tells-asked : (s : Source) (nodes : Nodes) (a : Asked) (budget : ℕ) (text : Text) (x : Bool) → budget ≡ budget_of nodes →
-    ((p : Program) (q : Query) (names : Names) (resolutions : ℕ) (ns : Nodes) → IsOf s a p q names → budget_of ns ≡ budget → Tells p q names resolutions ns text x) → TellsAsked s nodes a text x
-tells-asked s nodes a budget text x e h p q names resolutions i = h p q names resolutions nodes i (sym e)
+pub told-none : (s : Source) (resolutions : ℕ) (nodes : Nodes) (ones : List Asked) (now : Option Text) → ToldSoFar s resolutions nodes ones now ones now false
+told-none s resolutions nodes ones now = record { lines = []; wrote = Wrote-none now; tells = λ rest y h. h; begins = λ rest h. h }
 
 -- ---- element by element
 
@@ -164,21 +157,23 @@ asked-end cs s raw i ones n so =
     asked-all cs s (map query_form raw) ones (subst (λ qs. AskedSoFar cs s (map query_form raw) (map query_form qs) ones) (drop_all i raw n) so)
 
 -- what is told before the i-th query
-module _ (s : Source) (nodes : Nodes) (ones : List Asked) (start : Option Text) (a : Asked) (i : ℕ) (now then : Option Text) (stopped : Bool) where
+module _ (s : Source) (resolutions : ℕ) (nodes : Nodes) (ones : List Asked) (start : Option Text) (a : Asked) (i : ℕ) (now then : Option Text) (stopped : Bool) where
   abbrev ToldAt : ℕ → Option Text → Bool → Type 0
-  ToldAt k now stopped = ToldSoFar s nodes ones (drop k ones) start now stopped
+  ToldAt k now stopped = ToldSoFar s resolutions nodes ones start (drop k ones) now stopped
 
-  onward : i < length ones → a ≡ get_or ones i a → ToldAt i now stopped → ToldSoFar s nodes ones (a ∷ drop (i + 1) ones) start now stopped
-  onward h at so = subst (λ left. ToldSoFar s nodes ones left start now stopped) (next-of ones a i h at) so
+  onward : i < length ones → a ≡ get_or ones i a → ToldAt i now stopped → ToldSoFar s resolutions nodes ones start (a ∷ drop (i + 1) ones) now stopped
+  onward h at so = subst (λ left. ToldSoFar s resolutions nodes ones start left now stopped) (next-of ones a i h at) so
 
-  pub told-on : (x : Bool) → i < length ones → a ≡ get_or ones i a → ToldAt i now stopped → (text : Text) × (TellsAsked s nodes a text x × Wrote now then text) → ToldAt (i + 1) then (stopped || x)
-  told-on x h at so t = told-more s nodes ones start a (drop (i + 1) ones) now then stopped x t.0 (onward h at so) t.1.0 t.1.1
+  pub told-on : (x : Bool) (budget : ℕ) → budget ≡ budget_of nodes → i < length ones → a ≡ get_or ones i a → ToldAt i now stopped → IsTold s a resolutions budget now then x →
+      ToldAt (i + 1) then (stopped || x)
+  told-on x budget e h at so t =
+      told-more s resolutions nodes ones start a (drop (i + 1) ones) now then stopped x t.lines (onward h at so) (t.tells nodes (sym e)) t.wrote
 
-  pub told-off : (o : Outcome) → i < length ones → a ≡ get_or ones i a → ToldAt i now stopped → BreaksAfter (λ text. (rest : List Asked) → AllBegin s nodes (a ∷ rest) text) now then o →
-      BreaksAfter (AllBegin s nodes ones) start then o
-  told-off o h at so b = told-breaks s nodes ones start a (drop (i + 1) ones) now then stopped o (onward h at so) b
+  pub told-off : (o : Outcome) (budget : ℕ) → budget ≡ budget_of nodes → i < length ones → a ≡ get_or ones i a → ToldAt i now stopped → BreaksOff s a resolutions budget now then o →
+      BreaksAfter (AllBegin s resolutions nodes ones) start then o
+  told-off o budget e h at so b = told-breaks s resolutions nodes ones start a (drop (i + 1) ones) now then stopped o budget e (onward h at so) b
 
-pub told-end : (s : Source) (nodes : Nodes) (ones : List Asked) (start now : Option Text) (i : ℕ) (stopped : Bool) → length ones ≤ i →
-    ToldSoFar s nodes ones (drop i ones) start now stopped → (text : Text) × (AllTell s nodes ones text stopped × Wrote start now text)
-told-end s nodes ones start now i stopped h so =
-    told-all s nodes ones start now stopped (subst (λ left. ToldSoFar s nodes ones left start now stopped) (drop_all i ones h) so)
+pub told-end : (s : Source) (resolutions : ℕ) (nodes : Nodes) (ones : List Asked) (start now : Option Text) (i : ℕ) (stopped : Bool) → length ones ≤ i →
+    ToldSoFar s resolutions nodes ones start (drop i ones) now stopped → (lines : List Text) × (AllTell s resolutions nodes ones lines stopped × Wrote start now (lines_text lines))
+told-end s resolutions nodes ones start now i stopped h so =
+    told-all s resolutions nodes ones start now stopped (subst (λ left. ToldSoFar s resolutions nodes ones start left now stopped) (drop_all i ones h) so)

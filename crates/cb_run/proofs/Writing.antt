@@ -7,8 +7,7 @@ use Rattle.cb_model.specs.declared.Outcome.TheVariants as outcome
 use Rattle.cb_model.specs.declared.Side.TheVariants as side
 use Rattle.cb_model.specs.declared.RawQuery.{RawQuery}
 use Rattle.cb_model.specs.Text.{Text}
-use Rattle.cb_model.specs.Bits.{Each}
-use Rattle.cb_model.specs.Commands.{Nodes}
+use Rattle.cb_model.specs.Commands.{Nodes, Max, Only}
 use Rattle.cb_model.specs.Grammar.{FormClause, FormQuery, Whole, Lexed, Syntax, Unfinished, Deep, ReadsQuery, IsReading}
 use Rattle.cb_model.specs.Forms.{query_form}
 use Rattle.cb_model.specs.Written.{AreQueries}
@@ -17,7 +16,7 @@ use Rattle.cb_model.specs.Directives.{SortClash, Unknown}
 use Rattle.cb_model.specs.Refusals.{Refused, refused, unbuilt}
 use Rattle.cb_model.specs.Faults.{Counted}
 use Rattle.cb_model.specs.Output as model
-use Rattle.cb_model.specs.Output.{Loaded, InputRefused, run_outcome, sort_refused}
+use Rattle.cb_model.specs.Output.{Loaded, InputRefused, run_outcome, sort_refused, QueriesRefusal}
 use Rattle.cb_directives.specs.declared.fault.LoadError.{LoadError}
 use Rattle.cb_directives.specs.declared.fault.LoadError.TheVariants as fault
 use Rattle.cb_lex.specs.Faults.{fault_of}
@@ -26,7 +25,6 @@ use Rattle.cb_syntax.specs.declared.texts.ReadError.TheVariants as error
 use Rattle.cb_syntax.specs.Readings.{IsRefused}
 use Rattle.cb_host.specs.Host.{IfTold, HasLength, ReadsAll}
 use Rattle.cb_host.specs.declared.Load.TheVariants as load
-use Rattle.cb_equations.specs.Scope.{EquationsRead}
 use Rattle.cb_sorts.specs.Source.{Source}
 use Rattle.cb_sorts.specs.OverFile.{QueriesOverFile}
 use Rattle.cb_sorts.specs.Asked.{Asked}
@@ -39,10 +37,10 @@ use Rattle.cb_lines.specs.Ends.{Finishes, EndsBy, EndTold, Writes, broken, wanti
 use Rattle.cb_lines.proofs.Writing.{counted_as, map-writes, map-said, finish-tells, refusal-said, Ending, by_refusal, by_fault, by_want, ending}
 use Rattle.cb_accept.specs.Refusals.{without_circuits}
 use Rattle.cb_accept.proofs.Accepting.{some-none}
-use Rattle.cb_run.specs.Run.{AreAsked, AsksBooleans}
 use Rattle.cb_run.specs.Run as run
-use Rattle.cb_run.specs.Running.{BreaksAfter, AskedRun, not_boolean, told, IsOver, AllAsk, RefusesQueries, InputBegins, nothing_yet, begins, so_far, InputWrites, IsInput}
-use Rattle.cb_run.proofs.Telling.{equations-of, booleans-of, all-tell, all-begin}
+use Rattle.cb_run.specs.Run.{QueriesTell}
+use Rattle.cb_run.specs.Running.{BreaksAfter, AskedRun, IsOver, AllAsk, IsOf, RefusesQueries, InputBegins, nothing_yet, begins, so_far, InputWrites, IsInput}
+use Rattle.cb_run.proofs.Telling.{all-tell, all-begin, all-said, begun-so-far}
 
 -- the input is longer than its limit
 abbrev too_long : Refused
@@ -102,7 +100,7 @@ module _ {l : Loaded} {resolutions : ℕ} {nodes : Nodes} {input : Text} {before
       of_front t (ends.begins all o k p) = begins all o (map-said f all o k) p
 
   refused-writes : (r : Refused) → InputRefused l input r → Refusing r before after result → InputWrites l resolutions nodes input before after result
-  refused-writes r h k = said-writes (λ lines o e. run.refused r h e) k
+  refused-writes r h k = said-writes (λ lines o e. run.says (inl (r, (h, e)))) k
 
   ended-writes : {Why : Refused → Type 0} (e : Ended) → ((r : Refused) → Why r → InputRefused l input r) → EndsBy Why ⊥ e → EndTold e before after result → InputWrites l resolutions nodes input before after result
   ended-writes {Why} e f h t = by_case (ending e h t)
@@ -127,17 +125,20 @@ module _ {l : Loaded} {resolutions : ℕ} {nodes : Nodes} {input : Text} {before
   writes-long text h e f =
       refused-writes too_long (model.long h) (finish-tells (refusal-said too_long text 20 (record { line = e; number = refl })) f)
 
+-- the lines of queries are said over their input
+says-queries : (l : Loaded) (resolutions : ℕ) (nodes : Nodes) (input : Text) (qs : List FormQuery) (lines : List Text) (stop : Bool) (o : Outcome) → IsOf input qs → QueriesRefusal l qs None →
+    QueriesTell l resolutions nodes qs lines stop → o ≡ run_outcome stop → run.InputSays l resolutions nodes input lines o
+says-queries l resolutions Max input qs lines stop o i a t e = run.says (inr (qs, stop, i.short, i.reading, a, all-said qs lines stop t, e))
+says-queries l resolutions (Only n) input qs lines stop o i a t e = run.few qs stop tt i.short i.reading a t e
+
 -- where all queries are accepted
-pub writes-asked : QueriesOverFile → EquationsRead → (cs : List FormClause) (s : Source) (resolutions : ℕ) (nodes : Nodes) (input : Text) (qs : List FormQuery) (ones : List Asked) →
-    {before after : Option Text} {result : Outcome} → IsOver cs s → AreAsked (without_circuits cs s.declared) input qs → AllAsk cs s qs ones → AskedRun s nodes ones before after result →
-    InputWrites (without_circuits cs s.declared) resolutions nodes input before after result
-writes-asked meant law cs s resolutions nodes input qs ones o i h (not_boolean n k) =
-    said-writes (λ lines out e. run.not_boolean qs i (λ b. n (equations-of law cs s qs ones h b)) e) k
-writes-asked meant law cs s resolutions nodes input qs ones o i h (told bools w) =
-    let b : Each (AsksBooleans (without_circuits cs s.declared)) qs = booleans-of law cs s qs ones h bools in
+pub writes-asked : QueriesOverFile → (cs : List FormClause) (s : Source) (resolutions : ℕ) (nodes : Nodes) (input : Text) (qs : List FormQuery) (ones : List Asked) →
+    {before after : Option Text} {result : Outcome} → IsOver cs s → IsOf input qs → QueriesRefusal (without_circuits cs s.declared) qs None → AllAsk cs s qs ones →
+    AskedRun s resolutions nodes ones before after result → InputWrites (without_circuits cs s.declared) resolutions nodes input before after result
+writes-asked meant cs s resolutions nodes input qs ones o i a h w =
     map-writes
-    (λ t e k. let d = all-tell meant cs s o resolutions nodes qs ones t k.0 h k.1.0 in record { lines = d.0; says = run.ran qs k.0 i b d.1.0 k.1.1; is = d.1.1 })
-    (λ t k. so_far qs i b (all-begin meant cs s o resolutions nodes qs ones t h k)) w
+    (λ t e k. map-said (λ lines out d. says-queries _ resolutions nodes input qs lines d.0 out i a (all-tell meant cs s o resolutions nodes qs ones lines d.0 h d.1.0) d.1.1) t e k)
+    (λ t k. so_far qs i a (begun-so-far nodes qs t (all-begin meant cs s o resolutions nodes qs ones t h k))) w
 
 -- the line that something isn't built yet
 pub unbuilt-told : {before after : Option Text} {result : Outcome} (text : Text) → text ≡ UNBUILT.now → Finishes before after text (outcome.Refused 99) result → Refusing unbuilt before after result

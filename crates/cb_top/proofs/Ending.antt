@@ -1,14 +1,10 @@
 -- What was printed and how it ended, from what was written over a file.
 use Rattle.std.proofs.Common.{◌≡◌, ◌⊎◌, ℕ, List, [], ◌∷◌, true, false, Option, Some, None, Err, Result, refl, sym, ap, subst, ◌∙◌, inl, inr}
-use Rattle.std.specs.List.{list_any}
 use Rattle.cb_model.specs.declared.Outcome.{Outcome}
 use Rattle.cb_model.specs.declared.Outcome.TheVariants as outcome
 use Rattle.cb_model.specs.declared.Side.{Side}
 use Rattle.cb_model.specs.declared.Side.TheVariants as side
 use Rattle.cb_model.specs.Text.{Text}
-use Rattle.cb_model.specs.Grammar.{FormClause}
-use Rattle.cb_model.specs.Directives.{Declared}
-use Rattle.cb_model.specs.Loading.{is_fact}
 use Rattle.cb_model.specs.Commands.{Command, Check, Run, Verify, Same, Make, Nodes, file_name}
 use Rattle.cb_model.specs.Refusals.{Refused, Refuses, refusal_line, usage, unbuilt}
 use Rattle.cb_model.specs.Outside.{Wrote, bytes_named}
@@ -21,14 +17,14 @@ use Rattle.cb_lines.specs.Ends as ends
 use Rattle.cb_lines.specs.Ends.{IsDecided, Finishes, EndsBy, EndTold, Writes, whole, broken, wanting, IsSaid, BeginsSaying, Tells, Refusing}
 use Rattle.cb_lines.proofs.Outcomes.{no-fault}
 use Rattle.cb_lines.proofs.Writing.{map-writes, map-said, finish-tells, refusal-said, Ending, by_refusal, by_fault, by_want, ending, none_counted, one_counted}
-use Rattle.cb_accept.specs.Refusals.{without_circuits}
 use Rattle.cb_accept.specs.declared.Accepted.{Accepted}
 use Rattle.cb_accept.specs.File.{holds, IsAccepted, IsTold, IsLong}
 use Rattle.cb_accept.proofs.Accepting.{some-none, accepted-loaded}
-use Rattle.cb_accept.proofs.Once.{read_none, refused-not-loaded, facts-not-loaded}
+use Rattle.cb_accept.proofs.Once.{refused-not-loaded}
 use Rattle.cb_run.specs.Run as run
-use Rattle.cb_run.specs.Run.{Holds, RunSays}
-use Rattle.cb_run.specs.Running.{FileRun, with_facts, asked, ProgramRun, read, input_failed, input_wanting, InputBegins, nothing_yet, begins, so_far, InputDecides}
+use Rattle.cb_run.specs.Run.{IsBuilt}
+use Rattle.cb_run.specs.Running.{FileRun, unbuilt_yet, asked, ProgramRun, read, input_failed, input_wanting, InputBegins, nothing_yet, begins, so_far, InputDecides}
+use Rattle.cb_run.proofs.Accepted.{unbuilt-not}
 use Rattle.cb_run.proofs.Outcomes.{input-side}
 use Rattle.cb_commands.specs.Says.{CheckSays, VerifyOver, SameOver}
 use Rattle.cb_commands.proofs.Outcomes.{check-facts, verify-facts, same-facts}
@@ -178,14 +174,6 @@ unbuilt-ran c k files told before after result e n g f =
 
 -- ---- over a file
 
--- the clauses of an accepted file without facts
-holds-of : (file : Text) (l : Loaded) → IsLoaded file l → list_any is_fact l.clauses ≡ false → Holds file l.clauses (without_circuits l.clauses l.declared)
-holds-of file l i h = record {
-  loaded = record { short = i.short; reading = i.reading; declares = i.declares; rules = i.rules; facts = read_none l.clauses h };
-  clauses = refl;
-  no_facts = h;
-}
-
 file_is : (name : Text) (task : Task) (files : Option (List (Text × Text))) (file : Text) → IsTold files name file → (list : List (Text × Text)) → files ≡ Some list → file ≡ bytes_or list (file_name (Some (command_over name task)))
 file_is name task files file ft list p = ft list p ∙ ap (bytes_or list) (name-of name task)
 
@@ -223,21 +211,25 @@ ended-ran name task {files} {told} {before} {after} {result} F e h t = by_case (
 
 -- over one whose queries are run
 run-ran : (name file : Text) (resolutions : ℕ) (nodes : Nodes) (l : Loaded) {files : Option (List (Text × Text))} {told left before after : Option Text} {result : Outcome} →
-    IsTold files name file → IsLoaded file l → FileRun l.clauses l.declared resolutions nodes told left before after result → Ran (Some (Run name resolutions nodes)) files told left before after result
-run-ran name file resolutions nodes l {files} {told} {left} {before} {after} {result} ft i (with_facts h e k) =
+    IsTold files name file → IsLoaded file l → FileRun l resolutions nodes told left before after result → Ran (Some (Run name resolutions nodes)) files told left before after result
+run-ran name file resolutions nodes l {files} {told} {left} {before} {after} {result} ft i (unbuilt_yet h e k) =
     tells-ran (Some (Run name resolutions nodes)) file (told_or told) (inl (λ q. some-none (Run name resolutions nodes) q)) ft (λ bytes p. ap told_or p)
-    (λ bytes p. inr ((λ m j. facts-not-loaded file l i h m j.loaded j.no_facts), e ∙ p)) (λ lines o s. built.accepted l i (run.with_facts h s)) k
+    (λ bytes p. inr ((λ m b. unbuilt-not file l i h m b), e ∙ p)) (λ lines o s. built.accepted l i (run.unbuilt_yet h s)) k
 run-ran name file resolutions nodes l {files} {told} {left} {before} {after} {result} ft i (asked h (read input k w)) =
-    written-ran (Some (Run name resolutions nodes)) file input (inl (λ q. some-none (Run name resolutions nodes) q)) ft k.is (λ bytes p. inl (without_circuits l.clauses l.declared, (holds-of file l i h, k.taken bytes p)))
+    written-ran (Some (Run name resolutions nodes)) file input (inl (λ q. some-none (Run name resolutions nodes) q)) ft k.is (λ bytes p. inl (l, (is-built, k.taken bytes p)))
     (map-writes decides begun w)
   where
-    decides : (t : Text) (o : Outcome) → InputDecides (without_circuits l.clauses l.declared) resolutions nodes input t o → Output (Some (Run name resolutions nodes)) file input t o
-    decides t o s = map-said (λ lines o2 q. built.accepted l i (run.asked (without_circuits l.clauses l.declared) (holds-of file l i h) q)) t o s
+    is-built : IsBuilt file l
+    is-built = record { loaded = i; built = h }
 
-    begun : (t : Text) → InputBegins (without_circuits l.clauses l.declared) resolutions nodes input t → OutputBegins (Some (Run name resolutions nodes)) file input t
+    decides : (t : Text) (o : Outcome) → InputDecides l resolutions nodes input t o → Output (Some (Run name resolutions nodes)) file input t o
+    decides t o s = map-said (λ lines o2 q. built.accepted l i (run.asked h q)) t o s
+
+    begun : (t : Text) → InputBegins l resolutions nodes input t → OutputBegins (Some (Run name resolutions nodes)) file input t
     begun t (nothing_yet e) = built.nothing_yet e
     begun t (begins all o s p) = built.begins all o (decides all o s) p
-    begun t (so_far qs s b q) = built.so_far name resolutions nodes refl (record { l = without_circuits l.clauses l.declared; holds = holds-of file l i h; qs = qs; accepted = s; boolean = b; begins = q })
+    begun t (so_far qs s b q) =
+        built.so_far name resolutions nodes refl (record { l = l; built = is-built; qs = qs; short = s.short; reading = s.reading; accepted = b; begins = q })
 run-ran name file resolutions nodes l ft i (asked h (input_failed e w)) =
     nothing-ran (Some (Run name resolutions nodes)) (λ q. some-none (Run name resolutions nodes) q) (λ x. subst IsDecided e x) (λ p. tt) w
 run-ran name file resolutions nodes l ft i (asked h (input_wanting e w)) = memory-ran (Some (Run name resolutions nodes)) (λ q. some-none (Run name resolutions nodes) q) e w
@@ -288,8 +280,8 @@ verify-side l name nodes k = tells-side (λ lines o h. (verify-facts l name node
 pub same-side : (l : Loaded) (one two : Text) (nodes : Nodes) {before after : Option Text} {result : Outcome} → Tells (SameOver l one two nodes) before after result → (s : Side) → (s ≡ side.Output → ⊥) → result ≡ outcome.Fault s → ⊥
 same-side l one two nodes k = tells-side (λ lines o h. (same-facts l one two nodes lines o h).ends) k
 
-run-file : {cs : List FormClause} {d : Declared} {resolutions : ℕ} {nodes : Nodes} {told left before after : Option Text} {result : Outcome} → FileRun cs d resolutions nodes told left before after result → result ≡ outcome.Fault side.File → ⊥
-run-file (with_facts h l k) e = refusing-side unbuilt k side.File (λ (p : side.File ≡ side.Output). absurd (cc)) e
+run-file : {l : Loaded} {resolutions : ℕ} {nodes : Nodes} {told left before after : Option Text} {result : Outcome} → FileRun l resolutions nodes told left before after result → result ≡ outcome.Fault side.File → ⊥
+run-file (unbuilt_yet h l k) e = refusing-side unbuilt k side.File (λ (p : side.File ≡ side.Output). absurd (cc)) e
 run-file (asked h (read input k w)) e = input-side w side.File (λ (p : side.File ≡ side.Output). absurd (cc)) e
 run-file (asked h (input_failed f w)) e = let q : outcome.Fault side.Input ≡ outcome.Fault side.File = sym f ∙ e in let s : side.Input ≡ side.File = cc in cc
 run-file (asked h (input_wanting f w)) e = let q : outcome.Memory ≡ outcome.Fault side.File = sym f ∙ e in cc

@@ -5,7 +5,6 @@ use Rattle.cb_model.specs.declared.Outcome.TheVariants as outcome
 use Rattle.cb_model.specs.declared.Side.{Side}
 use Rattle.cb_model.specs.declared.Side.TheVariants as side
 use Rattle.cb_model.specs.Text.{Text}
-use Rattle.cb_model.specs.Grammar.{FormClause}
 use Rattle.cb_model.specs.Commands.{Command, Check, Run, Verify, Same, Make, IsNumber, Nodes}
 use Rattle.cb_model.specs.Refusals.{Refused, Refuses, usage, unbuilt}
 use Rattle.cb_lines.specs.Ends.{IsDecided, Finishes, all_written, cut_off, whole, broken, wanting, Tells}
@@ -14,7 +13,7 @@ use Rattle.cb_model.specs.Output as output
 use Rattle.cb_model.specs.Output.{Loaded, FileRefused, long, unread}
 use Rattle.cb_accept.proofs.Accepting.{some-none}
 use Rattle.cb_commands.proofs.Outcomes.{check-facts, verify-facts, same-facts}
-use Rattle.cb_run.specs.Run.{RunSays, with_facts, asked}
+use Rattle.cb_run.specs.Run.{RunSays, unbuilt_yet, asked}
 use Rattle.cb_run.proofs.Outcomes.{input-facts}
 use Rattle.cb_top.specs.Built.{Task, Checking, Running, Comparing, Pairing, TaskSays, FileSays, refused, accepted, CommandSays}
 use Rattle.cb_top.specs.Top.{IsRun, MayStop}
@@ -33,19 +32,19 @@ TaskStops (Running resolutions nodes) = Unit {0}
 TaskStops (Comparing name nodes) = IsNumber nodes
 TaskStops (Pairing one two nodes) = IsNumber nodes
 
-run-facts : (file : Text) (cs : List FormClause) (resolutions : ℕ) (nodes : Nodes) (input : Text) (lines : List Text) (o : Outcome) → RunSays file cs resolutions nodes input lines o → Facts (Unit {0}) o
-run-facts file cs resolutions nodes input lines o (with_facts a h) = refusal-facts unbuilt lines o (λ (p : 99 ≡ 19). omega arith) h
-run-facts file cs resolutions nodes input lines o (asked l i h) = input-facts l resolutions nodes input lines o h
+run-facts : (l : Loaded) (resolutions : ℕ) (nodes : Nodes) (input : Text) (lines : List Text) (o : Outcome) → RunSays l resolutions nodes input lines o → Facts (Unit {0}) o
+run-facts l resolutions nodes input lines o (unbuilt_yet a h) = refusal-facts unbuilt lines o (λ (p : 99 ≡ 19). omega arith) h
+run-facts l resolutions nodes input lines o (asked a h) = input-facts l resolutions nodes input lines o h
 
-task-facts : (task : Task) (file input : Text) (l : Loaded) (lines : List Text) (o : Outcome) → TaskSays task file input l lines o → Facts (TaskStops task) o
-task-facts Checking file input l lines o h = check-facts l lines o h
-task-facts (Running resolutions nodes) file input l lines o h = run-facts file l.clauses resolutions nodes input lines o h
-task-facts (Comparing name nodes) file input l lines o h = verify-facts l name nodes lines o h
-task-facts (Pairing one two nodes) file input l lines o h = same-facts l one two nodes lines o h
+task-facts : (task : Task) (input : Text) (l : Loaded) (lines : List Text) (o : Outcome) → TaskSays task input l lines o → Facts (TaskStops task) o
+task-facts Checking input l lines o h = check-facts l lines o h
+task-facts (Running resolutions nodes) input l lines o h = run-facts l resolutions nodes input lines o h
+task-facts (Comparing name nodes) input l lines o h = verify-facts l name nodes lines o h
+task-facts (Pairing one two nodes) input l lines o h = same-facts l one two nodes lines o h
 
 file-facts : (task : Task) (file input : Text) (lines : List Text) (o : Outcome) → FileSays task file input lines o → Facts (TaskStops task) o
 file-facts task file input lines o (refused r t h) = refusal-facts r lines o (file-number file r t) h
-file-facts task file input lines o (accepted l i h) = task-facts task file input l lines o h
+file-facts task file input lines o (accepted l i h) = task-facts task input l lines o h
 
 -- what an output says of its outcome
 pub record HasOutcome (c : Option Command) (o : Outcome) : Type 0 where

@@ -1,5 +1,5 @@
 -- What is built so far of what the program prints: `check`, `verify` and `same` on all files, and `run` on files without
--- facts of circuits over queries of Boolean equations.
+-- facts of circuits and without directives `delay` and `demon`.
 use Rattle.std.specs.Prelude.{◌≡◌, ◌⊎◌, ℕ, List, [], Option, Some, None}
 use Rattle.cb_model.specs.declared.Outcome.{Outcome}
 use Rattle.cb_model.specs.Text.{Text, IsPrefix}
@@ -8,7 +8,7 @@ use Rattle.cb_model.specs.Refusals.{Refused, Refuses, usage, unbuilt}
 use Rattle.cb_model.specs.Output.{Loaded, IsLoaded, LoadedSays, FileRefused, ReadWhole}
 use Rattle.cb_model.specs.Outside.{bytes_named}
 use Rattle.cb_lines.specs.Ends.{IsSaid}
-use Rattle.cb_run.specs.Run.{Holds, RunSays, Asking}
+use Rattle.cb_run.specs.Run.{IsBuilt, RunSays, Asking}
 
 -- what is asked of a file
 pub data Task : Type 0 where
@@ -25,16 +25,16 @@ command_over file (Comparing name nodes) = Verify file name nodes
 command_over file (Pairing one two nodes) = Same file one two nodes
 
 -- the lines and the outcome of a task over an accepted file and the input
-abbrev pub TaskSays : Task → Text → Text → Loaded → List Text → Outcome → Type 0
-TaskSays Checking file input l lines outcome = LoadedSays (Check []) input l lines outcome
-TaskSays (Running resolutions nodes) file input l lines outcome = RunSays file l.clauses resolutions nodes input lines outcome
-TaskSays (Comparing name nodes) file input l lines outcome = LoadedSays (Verify [] name nodes) input l lines outcome
-TaskSays (Pairing one two nodes) file input l lines outcome = LoadedSays (Same [] one two nodes) input l lines outcome
+abbrev pub TaskSays : Task → Text → Loaded → List Text → Outcome → Type 0
+TaskSays Checking input l lines outcome = LoadedSays (Check []) input l lines outcome
+TaskSays (Running resolutions nodes) input l lines outcome = RunSays l resolutions nodes input lines outcome
+TaskSays (Comparing name nodes) input l lines outcome = LoadedSays (Verify [] name nodes) input l lines outcome
+TaskSays (Pairing one two nodes) input l lines outcome = LoadedSays (Same [] one two nodes) input l lines outcome
 
 -- the same over any file
 pub data FileSays (task : Task) (file input : Text) (lines : List Text) (outcome : Outcome) : Type 0 where
   refused : (r : Refused) → FileRefused file r → Refuses r lines outcome → FileSays task file input lines outcome
-  accepted : (l : Loaded) → IsLoaded file l → TaskSays task file input l lines outcome → FileSays task file input lines outcome
+  accepted : (l : Loaded) → IsLoaded file l → TaskSays task input l lines outcome → FileSays task file input lines outcome
 
 -- what a command says over the bytes of its file and of the input
 abbrev pub CommandSays : Option Command → Text → Text → List Text → Outcome → Type 0
@@ -61,9 +61,9 @@ abbrev pub bytes_or : List (Text × Text) → Option Text → Text
 bytes_or files None = []
 bytes_or files (Some x) = bytes_named files x
 
--- what is left of the input after a run that no fault and no want of memory ended: only `run` over an accepted file
--- without facts of circuits reads it
+-- what is left of the input after a run that no fault and no want of memory ended: only `run` over an accepted file that
+-- has nothing which it doesn't take yet reads it
 abbrev pub TakesBy : Option Command → Text → Text → Option Text → Type 0
 TakesBy (Some (Run f r n)) file input after =
-    ((l : Loaded) × (Holds file l.clauses l × ReadWhole input after)) ⊎ (((l : Loaded) → Holds file l.clauses l → ⊥) × (after ≡ Some input))
+    ((l : Loaded) × (IsBuilt file l × ReadWhole input after)) ⊎ (((l : Loaded) → IsBuilt file l → ⊥) × (after ≡ Some input))
 TakesBy _ file input after = after ≡ Some input

@@ -29,7 +29,7 @@ ReadsInput _ = ⊥
 -- what is written for a task over an accepted file, and what is left of the input
 abbrev pub TaskRun : Task → Loaded → Option Text → Option Text → Option Text → Option Text → Outcome → Type 0
 TaskRun Checking l told left before after result = (left ≡ told) × Tells (CheckSays l) before after result
-TaskRun (Running resolutions nodes) l told left before after result = FileRun l.clauses l.declared resolutions nodes told left before after result
+TaskRun (Running resolutions nodes) l told left before after result = FileRun l resolutions nodes told left before after result
 TaskRun (Comparing name nodes) l told left before after result = (left ≡ told) × Tells (VerifyOver l name nodes) before after result
 TaskRun (Pairing one two nodes) l told left before after result = (left ≡ told) × Tells (SameOver l one two nodes) before after result
 

@@ -170,7 +170,7 @@ fn over_accepted<I: Source, O: Sink>(
 {
     match task {
         Task::Check => check(alloc, file, out),
-        Task::Run { nodes, .. } => run(alloc, file, nodes, input, out),
+        Task::Run { resolutions, nodes } => run(alloc, file, resolutions, nodes, input, out),
         Task::Verify { name, nodes } => verify(alloc, file, name.as_bytes(), nodes, out),
         Task::Same { one, two, nodes } => {
             same(alloc, file, one.as_bytes(), two.as_bytes(), nodes, out)

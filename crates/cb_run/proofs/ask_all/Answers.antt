@@ -14,11 +14,18 @@ loop-query-preserved c = λ cs o.
     (c.loop-query.invariant cs o) (c.in_ok-asked.ensures cs o.loads) c.in-Ok.ensures.items
 
 pub returns-in_err-asked : goal.returns-in_err-asked
-returns-in_err-asked c = λ cs o.
+returns-in_err-asked c =
     let p = err_from_is_err_and c.from_residual.result c.from_residual.ensures.1 in
     rw (p.1, p.2)
-    (asked-refused cs c.args.program.now c.args.raw.now c.query-item.result c.loop-query.query-index c.loop-query.queries.items _ c.loop-query-test.true c.query-item.is
-    (c.loop-query.invariant cs o) (c.in_err-asked.ensures cs o.loads))
+    (record {
+      asked = tt;
+      refused = λ cs o.
+          asked-refused cs c.args.program.now c.args.raw.now c.query-item.result c.loop-query.query-index c.loop-query.queries.items _ c.loop-query-test.true c.query-item.is
+          (c.loop-query.invariant cs o) (c.in_err-asked.ensures cs o.loads);
+    })
 
 pub returns : goal.returns
-returns c = λ cs o. asked-end cs c.args.program.now c.args.raw.now c.loop-query.query-index c.loop-query.queries.items c.loop-query-test.false (c.loop-query.invariant cs o)
+returns c = record {
+  asked = λ cs o. asked-end cs c.args.program.now c.args.raw.now c.loop-query.query-index c.loop-query.queries.items c.loop-query-test.false (c.loop-query.invariant cs o);
+  refused = tt;
+}

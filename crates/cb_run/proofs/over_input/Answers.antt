@@ -9,9 +9,11 @@ pub over_queries-requires-clause-written : goal.over_queries-requires-clause-wri
 over_queries-requires-clause-written g c = queries-few _ c.in-Ok.queries.items c.as_slice.result.now c.as_slice.ensures.value c.requires.short c.in-Ok.ensures.written
 
 pub returns-in-Ok-clause-says : goal.returns-in-Ok-clause-says
-returns-in-Ok-clause-says g c = λ cs r o.
-    c.over_queries.ensures.says cs r c.args.bytes.now o c.requires.short
-    (subst (λ (qs : List RawQuery). IsReading ReadsQuery c.args.bytes.now (Whole (map query_form qs))) (sym c.as_slice.ensures.value) c.in-Ok.ensures.reading)
+returns-in-Ok-clause-says g c = λ cs o.
+    c.over_queries.ensures.says cs o c.args.bytes.now (record {
+      short = c.requires.short;
+      reading = subst (λ (qs : List RawQuery). IsReading ReadsQuery c.args.bytes.now (Whole (map query_form qs))) (sym c.as_slice.ensures.value) c.in-Ok.ensures.reading;
+    })
 
 pub returns-in-Err-clause-says : goal.returns-in-Err-clause-says
-returns-in-Err-clause-says g c = λ cs r o. writes-unread c.in-Err.error c.unread.result c.requires.short c.in-Err.ensures.reading c.unread.ensures c.tell.ensures.told
+returns-in-Err-clause-says g c = λ cs o. writes-unread c.in-Err.error c.unread.result c.requires.short c.in-Err.ensures.reading c.unread.ensures c.tell.ensures.told

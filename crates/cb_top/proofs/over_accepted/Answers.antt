@@ -26,7 +26,7 @@ returns-in-Run-clause-says g c =
     subst
     (λ (t : Task). TaskRun (task_view t) (holds c.args.file.now) (g.I.Source.left c.args.input.now) (g.I.Source.left c.run.new.input)
     (g.O.Sink.written c.args.out.now) (g.O.Sink.written c.run.new.out) c.run.result)
-    (sym c.in-Run.is) (c.run.ensures.says _)
+    (sym c.in-Run.is) c.run.ensures.says
 
 pub returns-in-Verify-clause-says : goal.returns-in-Verify-clause-says
 returns-in-Verify-clause-says g c =

@@ -1,5 +1,0 @@
-pub mod Runs
-mod Shapes
-pub mod Lines
-mod Scope
-mod Goals

@@ -1,6 +1,0 @@
-mod Parametric
-mod Texts
-mod Printed
-mod Cases
-mod Items
-mod Shown
