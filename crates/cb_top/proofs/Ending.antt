@@ -26,8 +26,8 @@ use Rattle.cb_run.specs.Run.{IsBuilt}
 use Rattle.cb_run.specs.Running.{FileRun, unbuilt_yet, asked, ProgramRun, read, input_failed, input_wanting, InputBegins, nothing_yet, begins, so_far, InputDecides}
 use Rattle.cb_run.proofs.Accepted.{unbuilt-not}
 use Rattle.cb_run.proofs.Outcomes.{input-side}
-use Rattle.cb_commands.specs.Says.{CheckSays, VerifyOver, SameOver}
-use Rattle.cb_commands.proofs.Outcomes.{check-facts, verify-facts, same-facts}
+use Rattle.cb_commands.specs.Says.{CheckSays, VerifyOver, SameOver, MakeSays}
+use Rattle.cb_commands.proofs.Outcomes.{check-facts, verify-facts, same-facts, make-facts}
 use Rattle.cb_top.specs.Built as built
 use Rattle.cb_top.specs.Built.{Task, Checking, Running, Comparing, Pairing, command_over, CommandSays, FileSays, Output, OutputBegins, TakesBy, bytes_or}
 use Rattle.cb_top.specs.Top.{Appends, Prints, IsRun, MayStop, Ran}
@@ -165,12 +165,13 @@ usage-ran c files told before after result e f =
     subst (λ x. Ran x files told told before after result) (sym e)
     (fixed-ran None files told before after usage result (λ h. h) (finish-memory tt f) (λ file input lines o h. h) (finish-tells (refusal-said usage _ 19 (record { line = refl; number = refl })) f))
 
-pub unbuilt-ran : (c : Option Command) (k : Command) (files : Option (List (Text × Text))) (told before after : Option Text) (result : Outcome) → c ≡ Some k → (IsRun (Some k) → ⊥) →
-    ((file input : Text) (lines : List Text) (o : Outcome) → Refuses unbuilt lines o → CommandSays (Some k) file input lines o) → Finishes before after UNBUILT.now (outcome.Refused 99) result →
-    Ran c files told told before after result
-unbuilt-ran c k files told before after result e n g f =
+-- `make` reads neither file nor input
+pub make-ran : (c : Option Command) (bits : ℕ) (nodes : Nodes) (files : Option (List (Text × Text))) (told before after : Option Text) (result : Outcome) → c ≡ Some (Make bits nodes) →
+    Tells (MakeSays bits nodes) before after result → Ran c files told told before after result
+make-ran c bits nodes files told before after result e h =
     subst (λ x. Ran x files told told before after result) (sym e)
-    (fixed-ran (Some k) files told before after unbuilt result n (finish-memory tt f) g (finish-tells (refusal-said unbuilt _ 99 (record { line = refl; number = refl })) f))
+    (tells-ran (Some (Make bits nodes)) (told_bytes files (Some (Make bits nodes))) (told_or told) (inl (λ q. some-none (Make bits nodes) q)) (λ list p. ap (λ x. told_bytes x (Some (Make bits nodes))) p) (λ b p. ap told_or p)
+    (λ b p. takes-none (Some (Make bits nodes)) (told_bytes files (Some (Make bits nodes))) b told (λ k. k) p) (λ lines o k. k) h)
 
 -- ---- over a file
 
@@ -279,6 +280,9 @@ verify-side l name nodes k = tells-side (λ lines o h. (verify-facts l name node
 
 pub same-side : (l : Loaded) (one two : Text) (nodes : Nodes) {before after : Option Text} {result : Outcome} → Tells (SameOver l one two nodes) before after result → (s : Side) → (s ≡ side.Output → ⊥) → result ≡ outcome.Fault s → ⊥
 same-side l one two nodes k = tells-side (λ lines o h. (same-facts l one two nodes lines o h).ends) k
+
+pub make-side : (bits : ℕ) (nodes : Nodes) {before after : Option Text} {result : Outcome} → Tells (MakeSays bits nodes) before after result → (s : Side) → (s ≡ side.Output → ⊥) → result ≡ outcome.Fault s → ⊥
+make-side bits nodes k = tells-side (λ lines o h. (make-facts bits nodes lines o h).ends) k
 
 run-file : {l : Loaded} {resolutions : ℕ} {nodes : Nodes} {told left before after : Option Text} {result : Outcome} → FileRun l resolutions nodes told left before after result → result ≡ outcome.Fault side.File → ⊥
 run-file (unbuilt_yet h l k) e = refusing-side unbuilt k side.File (λ (p : side.File ≡ side.Output). absurd (cc)) e

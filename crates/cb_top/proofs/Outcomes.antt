@@ -12,7 +12,7 @@ use Rattle.cb_lines.proofs.Outcomes.{Facts, NotUsage, refusal-facts, reading-num
 use Rattle.cb_model.specs.Output as output
 use Rattle.cb_model.specs.Output.{Loaded, FileRefused, long, unread}
 use Rattle.cb_accept.proofs.Accepting.{some-none}
-use Rattle.cb_commands.proofs.Outcomes.{check-facts, verify-facts, same-facts}
+use Rattle.cb_commands.proofs.Outcomes.{check-facts, verify-facts, same-facts, make-facts}
 use Rattle.cb_run.specs.Run.{RunSays, unbuilt_yet, asked}
 use Rattle.cb_run.proofs.Outcomes.{input-facts}
 use Rattle.cb_top.specs.Built.{Task, Checking, Running, Comparing, Pairing, TaskSays, FileSays, refused, accepted, CommandSays}
@@ -67,7 +67,7 @@ says-outcome (Some (Check f)) file input lines o h = of-facts (Check f) o (file-
 says-outcome (Some (Run f r n)) file input lines o h = of-facts (Run f r n) o (file-facts (Running r n) file input lines o h)
 says-outcome (Some (Verify f x n)) file input lines o h = of-facts (Verify f x n) o (file-facts (Comparing x n) file input lines o h)
 says-outcome (Some (Same f a b n)) file input lines o h = of-facts (Same f a b n) o (file-facts (Pairing a b n) file input lines o h)
-says-outcome (Some (Make b n)) file input lines o h = of-facts (Make b n) o (refusal-facts unbuilt lines o (λ (p : 99 ≡ 19). omega arith) h)
+says-outcome (Some (Make b n)) file input lines o h = of-facts (Make b n) o (make-facts b n lines o h)
 
 -- ---- faults
 

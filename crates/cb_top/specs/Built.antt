@@ -1,13 +1,14 @@
--- What is built so far of what the program prints: `check`, `verify` and `same` on all files, and `run` on files without
--- facts of circuits and without directives `delay` and `demon`.
+-- What is built so far of what the program prints: `check`, `verify`, `same` and `make`, and `run` on files without facts of
+-- circuits and without directives `delay` and `demon`.
 use Rattle.std.specs.Prelude.{◌≡◌, ◌⊎◌, ℕ, List, [], Option, Some, None}
 use Rattle.cb_model.specs.declared.Outcome.{Outcome}
 use Rattle.cb_model.specs.Text.{Text, IsPrefix}
 use Rattle.cb_model.specs.Commands.{Command, Check, Run, Verify, Same, Make, Nodes}
-use Rattle.cb_model.specs.Refusals.{Refused, Refuses, usage, unbuilt}
+use Rattle.cb_model.specs.Refusals.{Refused, Refuses, usage}
 use Rattle.cb_model.specs.Output.{Loaded, IsLoaded, LoadedSays, FileRefused, ReadWhole}
 use Rattle.cb_model.specs.Outside.{bytes_named}
 use Rattle.cb_lines.specs.Ends.{IsSaid}
+use Rattle.cb_commands.specs.Says.{MakeSays}
 use Rattle.cb_run.specs.Run.{IsBuilt, RunSays, Asking}
 
 -- what is asked of a file
@@ -43,7 +44,7 @@ CommandSays (Some (Check f)) file input lines outcome = FileSays Checking file i
 CommandSays (Some (Run f resolutions nodes)) file input lines outcome = FileSays (Running resolutions nodes) file input lines outcome
 CommandSays (Some (Verify f name nodes)) file input lines outcome = FileSays (Comparing name nodes) file input lines outcome
 CommandSays (Some (Same f one two nodes)) file input lines outcome = FileSays (Pairing one two nodes) file input lines outcome
-CommandSays (Some (Make b n)) file input lines outcome = Refuses unbuilt lines outcome
+CommandSays (Some (Make b n)) file input lines outcome = MakeSays b n lines outcome
 
 -- the text and the outcome belong to this command, this file and this input
 abbrev pub Output : Option Command → Text → Text → Text → Outcome → Type 0

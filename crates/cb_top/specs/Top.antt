@@ -1,5 +1,5 @@
 -- What the top call promises of what it prints.
-use Rattle.std.specs.Prelude.{◌≡◌, ◌⊎◌, List, [], Option, Some, None}
+use Rattle.std.specs.Prelude.{◌≡◌, ◌⊎◌, ◌≤◌, List, [], Option, Some, None}
 use Rattle.cb_model.specs.declared.Outcome.{Outcome}
 use Rattle.cb_model.specs.declared.Outcome.TheVariants as outcome
 use Rattle.cb_model.specs.declared.Side.TheVariants as side
@@ -42,7 +42,12 @@ MayStop (Some (Check f)) = ⊥
 MayStop (Some (Run f r n)) = Unit {0}
 MayStop (Some (Verify f x n)) = IsNumber n
 MayStop (Some (Same f x y n)) = IsNumber n
-MayStop (Some (Make b n)) = ⊥
+MayStop (Some (Make b n)) = IsNumber n
+
+-- a generated circuit has so few bits
+abbrev pub MakesFew : Option Command → Type 0
+MakesFew (Some (Make b n)) = (1 ≤ b) × (b ≤ 64)
+MakesFew _ = Unit {0}
 
 -- what a command printed and how it ended
 pub record Ran (command : Option Command) (files : Option (List (Text × Text))) (told left before after : Option Text) (result : Outcome) : Type 0 where

@@ -9,11 +9,11 @@ ghost use Rattle.cb_model.specs.Top.{HasUsage};
 ghost use Rattle.cb_lines.specs.Words.{command_view};
 ghost use Rattle.cb_accept.specs.File.{holds, IsAccepted};
 ghost use Rattle.cb_top.specs.Built.{command_over};
-ghost use Rattle.cb_top.specs.Top.{Prints, IsRun, MayStop, Ran};
+ghost use Rattle.cb_top.specs.Top.{Prints, IsRun, MakesFew, MayStop, Ran};
 ghost use Rattle.cb_top.specs.Tasks.{task_view, ReadsInput, TaskRun, BytesRun};
 
 use cb_accept::{Accepted, accept, end, load_file};
-use cb_commands::{check, same, verify};
+use cb_commands::{check, make, same, verify};
 use cb_host::{Files, Sink, Source};
 use cb_lines::ended::finish;
 use cb_lines::lines;
@@ -72,6 +72,7 @@ fn over_command<F: Files, I: Source, O: Sink>(
     input: &mut I,
     out: &mut O,
 ) -> Outcome
+    requires { MakesFew (option_map command_view command) }
     ensures ran { Ran (option_map command_view command.entry) (F.list files.old) (I.left input.old) (I.left input.new) (O.written out.old) (O.written out.new) result }
     ensures input_unread { (IsRun (option_map command_view command.entry) → ⊥) → input.new ≡ input.old }
     ensures file_faults { Counted (result ≡ Outcome.Fault Side.File) (F.faults files.old) (F.faults files.new) }
@@ -105,7 +106,7 @@ fn over_command<F: Files, I: Source, O: Sink>(
             let task = Task::Same { one, two, nodes };
             over_file(alloc, file, task, files, input, out)
         }
-        Some(Command::Make { .. }) => finish(out, lines::UNBUILT, Outcome::Refused(99)),
+        Some(Command::Make { bits, nodes }) => make(alloc, bits, nodes, out),
     }
 }
 

@@ -2,7 +2,7 @@ use Rattle.std.proofs.Common.{◌≡◌, Some, ap, rules}
 use Rattle.std.specs.Option.{option_map}
 use Rattle.cb_lines.specs.Words.{command_view}
 use Rattle.cb_lines.specs.declared.words.Command.TheVariants.{Make}
-use Rattle.cb_top.proofs.Ending.{usage-ran, unbuilt-ran}
+use Rattle.cb_top.proofs.Ending.{usage-ran, make-ran}
 use Rattle.cb_top.proofs.over_command.Goals as goal
 
 pub returns-in-None-clause-ran : goal.returns-in-None-clause-ran
@@ -11,4 +11,4 @@ returns-in-None-clause-ran g c = usage-ran _ _ _ _ _ _ (ap (option_map command_v
 pub returns-in-Some-Make-clause-ran : goal.returns-in-Some-Make-clause-ran
 returns-in-Some-Make-clause-ran g c =
     let k : c.args.command ≡ Some (Make c.in-Some-Make.field-0-0 c.in-Some-Make.field-0-1) = search rules in
-    unbuilt-ran _ _ _ _ _ _ _ (ap (option_map command_view) k) (λ h. h) (λ file input lines o h. h) c.finish-in-Some-Make.ensures.written
+    make-ran _ _ _ _ _ _ _ _ (ap (option_map command_view) k) c.make.ensures.says
