@@ -10,7 +10,7 @@ use Rattle.cb_model.specs.Refusals.{Refused}
 use Rattle.cb_model.specs.Output as model
 use Rattle.cb_model.specs.Output.{Loaded, LoadedSays, InputRefused, run_outcome}
 use Rattle.cb_lines.specs.Ends.{IsDecided, whole, broken, wanting}
-use Rattle.cb_lines.proofs.Outcomes.{Facts, NotUsage, refusal-facts, reading-number, sort-number, no-fault}
+use Rattle.cb_lines.proofs.Outcomes.{Facts, refusal-facts, reading-number, sort-number, no-fault}
 use Rattle.cb_run.specs.Run.{InputSays, says, few}
 use Rattle.cb_run.specs.Running.{InputWrites}
 

@@ -1,5 +1,5 @@
 -- The loops over queries: what is asked and told so far.
-use Rattle.std.proofs.Common.{◌≡◌, ℕ, zero, suc, ◌+◌, ◌<◌, ◌≤◌, Bool, true, false, ◌&&◌, ◌||◌, List, [], ◌∷◌, ◌++◌, map, take, drop, get_or, add-one, length, Option, Some, refl, sym, ap, subst, ◌∙◌, inl, inr, ◌⊎◌, arith, append_assoc, append-nil}
+use Rattle.std.proofs.Common.{◌≡◌, ℕ, zero, suc, ◌+◌, ◌<◌, ◌≤◌, Bool, true, false, ◌&&◌, ◌||◌, List, [], ◌∷◌, ◌++◌, map, drop, get_or, add-one, length, Option, Some, refl, sym, ap, subst, ◌∙◌, arith, append_assoc, append-nil}
 use Rattle.std.proofs.Math.Seq.{drop-cons}
 use Rattle.std.proofs.lemmas.List.{drop_all}
 use Rattle.std.specs.List.{list_all}
@@ -8,8 +8,6 @@ use Rattle.cb_model.specs.Bits.{Each}
 use Rattle.cb_model.specs.Forms.{query_form}
 use Rattle.cb_model.specs.Written.{query_written}
 use Rattle.cb_model.specs.declared.Outcome.{Outcome}
-use Rattle.cb_model.specs.declared.Outcome.TheVariants as outcome
-use Rattle.cb_model.specs.declared.Side.TheVariants as side
 use Rattle.cb_model.specs.Text.{Text, lines_text}
 use Rattle.cb_model.specs.Commands.{Nodes, budget_of}
 use Rattle.cb_model.specs.Grammar.{FormClause, FormQuery}

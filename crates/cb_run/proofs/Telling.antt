@@ -1,7 +1,7 @@
 -- What accepted queries ask, what they print one after another, and what the definitions say of it.
-use Rattle.std.proofs.Common.{◌≡◌, ℕ, ◌^◌, ◌<◌, ◌≤◌, Bool, List, [], ◌∷◌, ◌++◌, length, sum_by, refl, subst, sym, None, arith}
+use Rattle.std.proofs.Common.{ℕ, ◌^◌, ◌<◌, ◌≤◌, Bool, List, [], ◌∷◌, length, sum_by, refl, None, arith}
 use Rattle.std.proofs.lemmas.List.Sums.{sum_by-cons}
-use Rattle.cb_model.specs.Text.{Text, lines_text}
+use Rattle.cb_model.specs.Text.{Text}
 use Rattle.cb_model.specs.Bits.{Each}
 use Rattle.cb_model.specs.Commands.{Nodes, Max, Only}
 use Rattle.cb_model.specs.Grammar.{FormClause, FormGoal, FormQuery}

@@ -1,4 +1,4 @@
-use Rattle.std.proofs.Common.{◌≡◌, ◌||◌, sym, ap, ◌∙◌}
+use Rattle.std.proofs.Common.{◌||◌, sym, ap, ◌∙◌}
 use Rattle.std.specs.List.{list_any}
 use Rattle.cb_model.specs.declared.RawClause.{RawClause}
 use Rattle.cb_model.specs.Forms.{clause_form}

@@ -1,7 +1,7 @@
 use Rattle.std.proofs.Common.{◌≡◌, refl, sym, subst}
 use Rattle.cb_model.specs.declared.Side.TheVariants.{Input, Output}
 use Rattle.cb_host.proofs.Writes.{Wrote-none}
-use Rattle.cb_lines.proofs.Writing.{none_counted, one_counted, decided_not}
+use Rattle.cb_lines.proofs.Writing.{none_counted}
 use Rattle.cb_run.specs.Running.{IsInput, read, input_failed, input_wanting}
 use Rattle.cb_run.proofs.Outcomes.{input-side}
 use Rattle.cb_run.proofs.Writing.{input-done, input-long, writes-long}
