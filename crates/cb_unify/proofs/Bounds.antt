@@ -111,15 +111,6 @@ size-node n (x ∷ xs) =
     let e : tree_size (tree.Node n (x ∷ xs)) ≡ sum_by tree_size (x ∷ xs) = ap tree_size (sym (tree.rolls-Node n (x ∷ xs))) ∙ fold-roll-Tree ℕ tree_size_step (Tree-F.Node n (x ∷ xs)) ∙ sum-map tree_size (x ∷ xs) in
     omega (arith, e)
 
-pub node-part : (n : ℕ) (xs : List Tree) (i : ℕ) (x : Tree) → i < length xs → x ≡ get_or xs i x → sum_by tree_size (take i xs) + tree_size x ≤ tree_size (tree.Node n xs)
-node-part n xs i x less e = let a = sum_by_more_le tree_size xs i x less in let b = ap tree_size e in let c = size-node n xs in omega (arith, a, b, c)
-
-pub node-front : (n : ℕ) (xs : List Tree) (i : ℕ) → sum_by tree_size (take i xs) ≤ tree_size (tree.Node n xs)
-node-front n xs i = let a = sum_by-take-le tree_size xs i in let b = size-node n xs in omega (arith, a, b)
-
-pub node-more : (xs : List Tree) (i : ℕ) (x : Tree) → i < length xs → x ≡ get_or xs i x → sum_by tree_size (take i xs) + tree_size x ≤ sum_by tree_size (take (i + 1) xs)
-node-more xs i x less e = let a = sum_by_more tree_size xs i x less in let b = ap tree_size e in omega (arith, a, b)
-
 pub bus-more : (es : List Expr) (k : ℕ) (d : Expr) → k < length es → sum_by expr_size (drop (k + 1) es) + expr_size (get_or es k d) ≤ sum_by expr_size (drop k es)
 bus-more es k d less = let a = sum_by-drop_more expr_size es k d less in omega (arith, a)
 
@@ -149,23 +140,3 @@ module _ (s now : Seen) (n : ℕ) (es : List Expr) (t : Option ℕ) (k : ℕ) (x
 
   pub bus-cause : (v : Seen) → now.store.nodes.fulls ≡ s.store.nodes.fulls → HasCause now.store v.store (nodes_most now.store (2 * expr_size x)) → HasCause s.store v.store (nodes_most s.store (2 * tree_size (tree.Bus es t)))
   bus-cause v f h = cause-after s now v n (sum_by expr_size (drop k es)) (expr_size x) (tree_size (tree.Bus es t)) p f room whole h
-
--- ---- a measure
-
-steps_step : Tree-F ℕ → ℕ
-steps_step (Tree-F.Node n ns) = sum ns + 1
-steps_step _ = 1
-
--- how many trees there are in a tree
-pub steps : Tree → ℕ
-steps = fold-Tree ℕ steps_step
-
-pub node-falls : (x : Tree) (n : ℕ) (xs ys : List Tree) → x ≡ tree.Node n xs → ys ≡ xs → 2 * sum_by steps ys + 1 < 2 * steps x
-unfolding steps steps_step
-node-falls x n xs ys is same =
-    let e : steps x ≡ sum_by steps xs + 1 = ap steps is ∙ ap steps (sym (tree.rolls-Node n xs)) ∙ fold-roll-Tree ℕ steps_step (Tree-F.Node n xs) ∙ ap (λ k. k + 1) (sum-map steps xs) in
-    let f : sum_by steps ys ≡ sum_by steps xs = ap (λ (l : List Tree). sum_by steps l) same in
-    omega (arith, e, f)
-
-pub part-falls : (xs : List Tree) (i : ℕ) (x : Tree) → i < length xs → x ≡ get_or xs i x → 2 * steps x < 2 * sum_by steps xs + 1
-part-falls xs i x less is = let a = sum_by_more_le steps xs i x less in let b = ap steps is in omega (arith, a, b)

@@ -12,6 +12,7 @@ pub mod Exprs
 pub mod Compounds
 pub mod Written
 pub mod Bounds
+pub mod Working
 pub mod Delays
 pub mod Settled
 pub mod Places

@@ -5,7 +5,8 @@ use Rattle.std.specs.Int.{w64}
 use Rattle.std.specs.List.{list_all}
 use Rattle.std.specs.Option.{option_map_or}
 use Rattle.std.proofs.lemmas.Bool.{and_parts}
-use Rattle.std.proofs.lemmas.List.Sums.{sum-map, sum_by_push}
+use Rattle.std.proofs.lemmas.List.{length-take-le, take-append-drop}
+use Rattle.std.proofs.lemmas.List.Sums.{sum-map, sum_by-append, sum_by_push}
 use Rattle.std.proofs.lemmas.Option.{slice_get_within, get_or_from_slice_get}
 use Rattle.cb_model.specs.declared.Sort.{Sort}
 use Rattle.cb_model.specs.declared.Sort.TheVariants as sort
@@ -45,7 +46,7 @@ use Rattle.cb_elim.specs.Moments.{KeepsMoments as KeepsBools}
 use Rattle.cb_heap.proofs.Back.{keeps-none as keeps-terms}
 use Rattle.cb_unify.proofs.Back.{keeps-both}
 use Rattle.cb_unify.specs.Lending.{IsLent, with_store}
-use Rattle.cb_unify.specs.Trees.{AreTreesOf, HasCompound, HasTree, HaveSlots, HaveTrees, IsCompoundAt, IsCompoundOf, IsNodeOf, IsTreeOf, IsWritten, bit_places, bit_places_step}
+use Rattle.cb_unify.specs.Trees.{AreTreesOf, HasCompound, HasTree, HaveCompounds, HaveSlots, HaveTrees, IsCompoundAt, IsCompoundOf, IsNodeOf, IsTreeOf, IsWritten, bit_places, bit_places_step}
 use Rattle.cb_unify.proofs.Added.{added-none, added-then, cons-value, fits-front, store-added}
 use Rattle.cb_unify.proofs.Exprs.{boolean-var, reads-same}
 use Rattle.cb_unify.proofs.Lent.{lent-state, nodes-lent}
@@ -483,20 +484,73 @@ each-last : (m : ℕ) (xs : List Ref) (x : Ref) → Each (λ r. r.0 < m) xs → 
 each-last m [] x h l = (l, tt)
 each-last m (y ∷ xs) x h l = (h.0, each-last m xs x h.1 l)
 
+-- what stands in a cell stays there
+compound-later : (s u : Seen) (n : ℕ) (x : Tree) (r : ℕ) → IsAdded s u n → HasCompound s x r → HasCompound u x r
+compound-later s u n x r p h name xs e =
+    let at = h name xs e in
+    record {
+      cell = ap (λ l. slice_get l r) p.cells.1 ∙ get-left s.heap.cells p.cells.0 r (cell.Node name (length xs)) at.cell;
+      behind = let a = at.behind in let m = more-cells s u n p in omega (arith, a, m);
+    }
+
+compounds-later : (s u : Seen) (n : ℕ) (xs : List Tree) (rs : List Ref) → IsAdded s u n → HaveCompounds s xs rs → HaveCompounds u xs rs
+compounds-later s u n [] [] p h = tt
+compounds-later s u n (x ∷ xs) (r ∷ rs) p h = (compound-later s u n x r.0 p h.0, compounds-later s u n xs rs p h.1)
+compounds-later s u n [] (r ∷ rs) p h = absurd h
+compounds-later s u n (x ∷ xs) [] p h = absurd h
+
+compounds-last : (s : Seen) (xs : List Tree) (rs : List Ref) (x : Tree) (r : Ref) → HaveCompounds s xs rs → HasCompound s x r.0 → HaveCompounds s (xs ++ x ∷ []) (rs ++ r ∷ [])
+compounds-last s [] [] x r h k = (k, tt)
+compounds-last s (y ∷ xs) (q ∷ rs) x r h k = (h.0, compounds-last s xs rs x r h.1 k)
+compounds-last s [] (q ∷ rs) x r h k = absurd h
+compounds-last s (y ∷ xs) [] x r h k = absurd h
+
+compounds-front : (s : Seen) (xs ys : List Tree) (rs qs : List Ref) → length rs ≡ length xs → HaveCompounds s (xs ++ ys) (rs ++ qs) → HaveCompounds s xs rs
+compounds-front s [] ys [] qs n h = tt
+compounds-front s (x ∷ xs) ys (r ∷ rs) qs n h = (h.0, compounds-front s xs ys rs qs (omega (arith, n)) h.1)
+compounds-front s [] ys (r ∷ rs) qs n h = absurd (omega (arith, n))
+compounds-front s (x ∷ xs) ys [] qs n h = absurd (omega (arith, n))
+
+trees-split : (t : Sorts) (zs : List Sort) (s : Seen) (frame : List ℕ) (xs ys : List Tree) (rs qs : List Ref) → length rs ≡ length xs → HaveTrees t zs s frame (xs ++ ys) (rs ++ qs) → HaveTrees t zs s frame xs rs × HaveTrees t zs s frame ys qs
+trees-split t zs s frame [] ys [] qs n h = (tt, h)
+trees-split t zs s frame (x ∷ xs) ys (r ∷ rs) qs n h = let k = trees-split t zs s frame xs ys rs qs (omega (arith, n)) h.1 in ((h.0, k.0), k.1)
+trees-split t zs s frame [] ys (r ∷ rs) qs n h = absurd (omega (arith, n))
+trees-split t zs s frame (x ∷ xs) ys [] qs n h = absurd (omega (arith, n))
+
+all-both : (f : Tree → Bool) (xs ys : List Tree) → all_of (map f xs) ≡ true → all_of (map f ys) ≡ true → all_of (map f (xs ++ ys)) ≡ true
+all-both f [] ys h k = k
+all-both f (x ∷ xs) ys h k =
+    let p = and_parts (f x) (all_of (map f xs)) h in
+    ap (λ b. b && all_of (map f (xs ++ ys))) p.0 ∙ all-both f xs ys p.1 k
+
+each-front : (m : ℕ) (xs ys : List Ref) → Each (λ r. r.0 < m) (xs ++ ys) → Each (λ r. r.0 < m) xs
+each-front m [] ys h = tt
+each-front m (x ∷ xs) ys h = (h.0, each-front m xs ys h.1)
+
 pub no-trees : (s : Seen) (frame : List ℕ) → IsState s → AreTreesOf s s frame [] []
-no-trees s frame is = record { added = added-none s is; there = tt; number = refl; stand = λ t zs fits f vf af. (fits, tt) }
+no-trees s frame is = record { added = added-none s is; there = tt; number = refl; compounds = tt; stand = λ t zs fits f vf af. (fits, tt) }
 
 pub one-more : (s u v : Seen) (frame : List ℕ) (xs : List Tree) (rs : List Ref) (x : Tree) (r : Ref) → AreTreesOf s u frame xs rs → IsTreeOf u v frame x r.0 → AreTreesOf s v frame (xs ++ x ∷ []) (rs ++ r ∷ [])
 one-more s u v frame xs rs x r m p = record {
   added = added-then s u v (sum_by bit_places xs) (bit_places x) (sum_by bit_places (xs ++ x ∷ [])) (let e = sum_by_push bit_places xs x in omega (arith, e)) m.added p.added;
   there = each-last (length v.heap.cells) rs r (there-more (length u.heap.cells) (length v.heap.cells) rs (more-cells u v (bit_places x) p.added) m.there) p.there;
   number = length-append rs (r ∷ []) ∙ (let n = m.number in let e : length rs + 1 ≡ length xs + 1 = omega (arith, n) in e) ∙ sym (length-append xs (x ∷ []));
+  compounds = compounds-last v xs rs x r (compounds-later u v (bit_places x) xs rs p.added m.compounds) p.compound;
   stand = λ t zs fits f vf af.
       let i = all-front (variables_fit zs) xs x vf in
       let j = all-front (arguments_fit t) xs x af in
       let k = m.stand t zs fits f i.0 j.0 in
       let l = p.stands t zs k.0 (frame-later s u zs frame m.added.extended.grown f) i.1 j.1 in
       (l.fits, trees-last t zs v frame xs rs x r (trees-later t zs u v frame xs rs p.added.extended.grown l.fits k.1) l);
+}
+
+-- a single tree
+pub one-tree : (s u : Seen) (frame : List ℕ) (x : Tree) (r : Ref) → AreTreesOf s u frame (x ∷ []) (r ∷ []) → IsTreeOf s u frame x r.0
+one-tree s u frame x r m = record {
+  added = added-then s u u (sum_by bit_places (x ∷ [])) 0 (bit_places x) (omega arith) m.added (added-none u m.added.state);
+  there = m.there.0;
+  compound = m.compounds.0;
+  stands = λ t zs fits f vf af. (m.stand t zs fits f (ap (λ b. b && true) vf) (ap (λ b. b && true) af)).1.0;
 }
 
 -- the values and the sorts of the cells are those of their trees
@@ -515,26 +569,48 @@ trees-sorts t zs s frame (x ∷ xs) (r ∷ rs) h =
 trees-sorts t zs s frame [] (r ∷ rs) h = absurd h
 trees-sorts t zs s frame (x ∷ xs) [] h = absurd h
 
-pub made-node : (s u v : Seen) (frame : List ℕ) (name : ℕ) (xs : List Tree) (rs : List Ref) (r : ℕ) → AreTreesOf s u frame xs rs → IsCompoundOf u v name rs r → IsTreeOf s v frame (tree.Node name xs) r
-made-node s u v frame name xs rs r m p = record {
-  added = added-then s u v (sum_by bit_places xs) 0 (bit_places (tree.Node name xs)) (let e = bits-node name xs in omega (arith, e)) m.added p.added;
-  there = let b = p.at.behind in omega arith;
-  compound = λ n ys e.
-      let same : name ≡ n = sym (name-node name xs) ∙ ap name_in e ∙ name-node n ys in
-      let count : suc (length xs) ≡ suc (length ys) = sym (count-node name xs) ∙ ap count_in e ∙ count-node n ys in
-      let number : length rs ≡ length ys = (let i = m.number in omega (arith, i, count)) in
-      subst (λ k. IsCompoundAt v n k r) number (subst (λ k. IsCompoundAt v k (length rs) r) same p.at);
-  stands = λ t zs fits f vf af.
-      let parts = and_parts (same_sorts (get_or t name []) (map tree_sort xs)) (all_of (map (arguments_fit t) xs)) (sym (args-node t name xs) ∙ af) in
-      let k = m.stand t zs fits f (sym (fit-node zs name xs) ∙ vf) parts.1 in
-      record {
-        value = λ t' a w g x q gives.
-            let qu : Reads t' u a w g = p.added.extended.grown.reads t' a w g q in
-            p.value t' a w g q ∙ ap (λ ys. Name name (grounds ys)) (trees-values t zs u frame xs rs k.1 t' a w g x qu gives) ∙ sym (value-node a x name xs);
-        sort = p.sort ∙ ap Some (sym (sort-node name xs));
-        fits = p.fits t k.0 (trees-sorts t zs u frame xs rs k.1 ∙ sym (are-sorts (get_or t name []) (map tree_sort xs) parts.0));
-      };
+-- the cell of a compound has its value and its sort
+node-tree : (t : Sorts) (zs : List Sort) (u v : Seen) (frame : List ℕ) (name : ℕ) (xs : List Tree) (rs : List Ref) (r : ℕ) → FitsTable t u → HaveTrees t zs u frame xs rs → same_sorts (get_or t name []) (map tree_sort xs) ≡ true →
+    IsCompoundOf u v name rs r → HasTree t zs v frame (tree.Node name xs) r
+node-tree t zs u v frame name xs rs r fits h same p = record {
+  value = λ t' a w g x q gives.
+      let qu : Reads t' u a w g = p.added.extended.grown.reads t' a w g q in
+      p.value t' a w g q ∙ ap (λ ys. Name name (grounds ys)) (trees-values t zs u frame xs rs h t' a w g x qu gives) ∙ sym (value-node a x name xs);
+  sort = p.sort ∙ ap Some (sym (sort-node name xs));
+  fits = p.fits t fits (trees-sorts t zs u frame xs rs h ∙ sym (are-sorts (get_or t name []) (map tree_sort xs) same));
 }
+
+-- the last trees become the arguments of a compound
+closed : (s u v : Seen) (frame : List ℕ) (name : ℕ) (ys xs : List Tree) (qs rs : List Ref) (r : Ref) → length qs ≡ length ys → AreTreesOf s u frame (ys ++ xs) (qs ++ rs) → IsCompoundOf u v name rs r.0 →
+    AreTreesOf s v frame (ys ++ tree.Node name xs ∷ []) (qs ++ r ∷ [])
+closed s u v frame name ys xs qs rs r n m p = record {
+  added = added-then s u v (sum_by bit_places (ys ++ xs)) 0 (sum_by bit_places (ys ++ tree.Node name xs ∷ []))
+      (let e = bits-node name xs in let i = sum_by-append bit_places ys xs in let j = sum_by_push bit_places ys (tree.Node name xs) in omega (arith, e, i, j)) m.added p.added;
+  there = each-last (length v.heap.cells) qs r (there-more (length u.heap.cells) (length v.heap.cells) qs (more-cells u v 0 p.added) (each-front (length u.heap.cells) qs rs m.there)) (let b = p.at.behind in omega arith);
+  number = length-append qs (r ∷ []) ∙ (let e : length qs + 1 ≡ length ys + 1 = omega (arith, n) in e) ∙ sym (length-append ys (tree.Node name xs ∷ []));
+  compounds = compounds-last v ys qs (tree.Node name xs) r (compounds-later u v 0 ys qs p.added (compounds-front u ys xs qs rs n m.compounds)) (λ k zs e.
+      let same : name ≡ k = sym (name-node name xs) ∙ ap name_in e ∙ name-node k zs in
+      let count : suc (length xs) ≡ suc (length zs) = sym (count-node name xs) ∙ ap count_in e ∙ count-node k zs in
+      let number : length rs ≡ length zs = (let i = m.number in let a = length-append qs rs in let b = length-append ys xs in omega (arith, i, a, b, n, count)) in
+      subst (λ i. IsCompoundAt v k i r.0) number (subst (λ i. IsCompoundAt v i (length rs) r.0) same p.at));
+  stand = λ t zs fits f vf af.
+      let i = all-front (variables_fit zs) ys (tree.Node name xs) vf in
+      let j = all-front (arguments_fit t) ys (tree.Node name xs) af in
+      let parts = and_parts (same_sorts (get_or t name []) (map tree_sort xs)) (all_of (map (arguments_fit t) xs)) (sym (args-node t name xs) ∙ j.1) in
+      let k = m.stand t zs fits f (all-both (variables_fit zs) ys xs i.0 (sym (fit-node zs name xs) ∙ i.1)) (all-both (arguments_fit t) ys xs j.0 parts.1) in
+      let both = trees-split t zs u frame ys xs qs rs n k.1 in
+      let l = node-tree t zs u v frame name xs rs r.0 k.0 both.1 parts.0 p in
+      (l.fits, trees-last t zs v frame ys qs (tree.Node name xs) r (trees-later t zs u v frame ys qs p.added.extended.grown l.fits both.0) l);
+}
+
+-- those from a place on
+pub closed-at : (s u v : Seen) (frame : List ℕ) (name start : ℕ) (xs : List Tree) (rs : List Ref) (r : Ref) → start ≤ length rs → AreTreesOf s u frame xs rs → IsCompoundOf u v name (drop start rs) r.0 →
+    AreTreesOf s v frame (take start xs ++ tree.Node name (drop start xs) ∷ []) (take start rs ++ r ∷ [])
+closed-at s u v frame name start xs rs r l m p =
+    let n : length (take start rs) ≡ length (take start xs) = (let i = m.number in length-take-le start rs l ∙ sym (length-take-le start xs (omega (arith, i, l)))) in
+    closed s u v frame name (take start xs) (drop start xs) (take start rs) (drop start rs) r n
+    (subst (λ (ys : List Tree). AreTreesOf s u frame ys (take start rs ++ drop start rs)) (sym (take-append-drop start xs))
+    (subst (λ (qs : List Ref). AreTreesOf s u frame xs qs) (sym (take-append-drop start rs)) m)) p
 
 -- ---- the whole
 

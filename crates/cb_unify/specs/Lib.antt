@@ -5,5 +5,6 @@ pub mod Lending
 pub mod Laws
 pub mod Solve
 pub mod Trees
+pub mod Works
 pub mod Delays
 pub mod Instance

@@ -110,9 +110,16 @@ HaveTrees t zs s frame [] [] = Unit {0}
 HaveTrees t zs s frame (x ∷ xs) (r ∷ rs) = HasTree t zs s frame x r.0 × HaveTrees t zs s frame xs rs
 HaveTrees t zs s frame _ _ = ⊥
 
+-- where a tree is a compound, so is what stands in its cell
+abbrev pub HaveCompounds : Seen → List Tree → List Ref → Type 0
+HaveCompounds s [] [] = Unit {0}
+HaveCompounds s (x ∷ xs) (r ∷ rs) = HasCompound s x r.0 × HaveCompounds s xs rs
+HaveCompounds s _ _ = ⊥
+
 -- trees were written, each to its cell
 pub record AreTreesOf (old new : Seen) (frame : List ℕ) (xs : List Tree) (rs : List Ref) : Type 0 where
   pub added : IsAdded old new (sum_by bit_places xs)
   pub there : Each (λ r. r.0 < length new.heap.cells) rs
   pub number : length rs ≡ length xs
+  pub compounds : HaveCompounds new xs rs
   pub stand : (t : Sorts) (zs : List Sort) → FitsTable t old → IsSortedFrame old zs frame → all_of (map (variables_fit zs) xs) ≡ true → all_of (map (arguments_fit t) xs) ≡ true → FitsTable t new × HaveTrees t zs new frame xs rs

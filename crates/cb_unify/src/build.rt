@@ -14,6 +14,7 @@ ghost use Rattle.cb_unify.specs.Moments.{KeepsMoments};
 ghost use Rattle.cb_unify.specs.Growth.{AddsNodes, AddsSlots, IsExtended, StopsBy};
 ghost use Rattle.cb_unify.specs.Trees.{HasCompound, HaveSlots, IsCompoundOf, IsNodeOf, IsTreeOf, IsWritten, StopsAt, WritesAtMost, bit_places, build_most};
 
+use crate::writing::{compound_cell, tree_cell};
 use crate::{Frame, State};
 use cb_dd::{Node, Stop};
 use cb_elim::{Slot, values_depend_on_live_levels};
@@ -42,8 +43,7 @@ impl State {
         ensures state { IsState self.new }
     {
         let before = self.mark();
-        let mut slots = Vec::new(*self.made.allocator());
-        match tree_cell(self, tree, frame, &mut slots) {
+        match tree_cell(self, tree, frame) {
             Ok(r) => Ok(r),
             Err(stop) => {
                 self.undo(before);
@@ -69,8 +69,7 @@ impl State {
         ensures state { IsState self.new }
     {
         let before = self.mark();
-        let mut slots = Vec::new(*self.made.allocator());
-        match compound(self, name, args, frame, &mut slots) {
+        match compound_cell(self, name, args, frame) {
             Ok(r) => Ok(r),
             Err(stop) => {
                 self.undo(before);
@@ -96,7 +95,7 @@ impl State {
     }
 
     // A compound of these cells.
-    fn make(&mut self, name: u32, args: &[Ref]) -> Result<Ref, AllocError>
+    pub(crate) fn make(&mut self, name: u32, args: &[Ref]) -> Result<Ref, AllocError>
         requires state { IsState self.old }
         requires there { Each (λ r. r.0 < length self.old.heap.cells) args.now }
         ensures made { IfOk result (λ r. IsCompoundOf self.old self.new name args.now r.0) }
@@ -121,76 +120,8 @@ impl State {
     }
 }
 
-// The cell of a tree. After a refusal cells, slots and nodes may be there. A text's trees are nested 256 deep at most.
-#[cycle(trees)]
-fn tree_cell(
-    state: &mut State,
-    tree: &Tree,
-    frame: &Frame,
-    slots: &mut Vec<Option<Slot>>,
-) -> Result<Ref, Stop>
-    requires state { IsState state.old }
-    requires frame { Each (λ r. r < length state.old.heap.cells) frame.now }
-    requires slots { HaveSlots state.old frame.now slots.old.items }
-    requires scope { tree_in_scope state.old.store.constants (length frame.now) tree.now ≡ true }
-    ensures tree { IfOk result (λ r. IsTreeOf state.old state.new frame.now tree.now r.0) }
-    ensures slots { OnOk result (HaveSlots state.new frame.now slots.new.items) }
-    ensures room { WritesAtMost state.old.store state.new.store (tree_size tree.now) }
-    ensures cause { StopsAt result state.old.store state.new.store (tree_size tree.now) }
-    ensures fulls { state.new.store.nodes.fulls ≡ has_refused state.old.store.nodes.fulls result }
-    ensures risen { state.old.store.nodes.fulls ≤ state.new.store.nodes.fulls }
-    ensures moments { KeepsMoments state.old state.new }
-    ensures state { IsState state.new }
-{
-    match tree {
-        Tree::Leaf(e) => truth(state, e, frame, slots),
-        Tree::Bus(es, tail) => bus_cell(state, es.as_slice(), *tail, frame, slots),
-        Tree::Var(n) => Ok(frame.get(*n)),
-        Tree::Int(value) => match state.put(Cell::Int(*value)) {
-            Ok(r) => Ok(r),
-            Err(_) => Err(Stop::Memory),
-        },
-        Tree::Node(name, args) => compound(state, *name, args.as_slice(), frame, slots),
-    }
-}
-
-// A compound, after its arguments.
-#[cycle(trees)]
-fn compound(
-    state: &mut State,
-    name: u32,
-    args: &[Tree],
-    frame: &Frame,
-    slots: &mut Vec<Option<Slot>>,
-) -> Result<Ref, Stop>
-    requires state { IsState state.old }
-    requires frame { Each (λ r. r < length state.old.heap.cells) frame.now }
-    requires slots { HaveSlots state.old frame.now slots.old.items }
-    requires scope { all_of (map (tree_in_scope state.old.store.constants (length frame.now)) args.now) ≡ true }
-    ensures tree { IfOk result (λ r. IsTreeOf state.old state.new frame.now (tree.Node name args.now) r.0) }
-    ensures slots { OnOk result (HaveSlots state.new frame.now slots.new.items) }
-    ensures room { WritesAtMost state.old.store state.new.store (tree_size (tree.Node name args.now)) }
-    ensures cause { StopsAt result state.old.store state.new.store (tree_size (tree.Node name args.now)) }
-    ensures fulls { state.new.store.nodes.fulls ≡ has_refused state.old.store.nodes.fulls result }
-    ensures risen { state.old.store.nodes.fulls ≤ state.new.store.nodes.fulls }
-    ensures moments { KeepsMoments state.old state.new }
-    ensures state { IsState state.new }
-{
-    let mut cells = Vec::new(*state.made.allocator());
-    for arg in args {
-        let cell = tree_cell(state, arg, frame, slots)?;
-        let Ok(()) = cells.push(cell) else {
-            return Err(Stop::Memory);
-        };
-    }
-    match state.make(name, &cells) {
-        Ok(r) => Ok(r),
-        Err(_) => Err(Stop::Memory),
-    }
-}
-
-// A bus, the last element first.
-fn bus_cell(
+/// A bus, the last element first.
+pub(crate) fn bus_cell(
     state: &mut State,
     es: &[Expr],
     tail: Option<u32>,
@@ -243,8 +174,8 @@ fn end_cell(state: &mut State, tail: Option<u32>, frame: &Frame) -> Result<Ref, 
     }
 }
 
-// A truth value: a variable's own cell, else a leaf with the expression's node.
-fn truth(
+/// A truth value: a variable's own cell, else a leaf with the expression's node.
+pub(crate) fn truth(
     state: &mut State,
     e: &Expr,
     frame: &Frame,

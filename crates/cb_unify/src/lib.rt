@@ -22,6 +22,7 @@ mod bus;
 mod fresh;
 mod holds;
 mod solve;
+mod writing;
 
 use cb_dd::Node;
 use cb_elim::{Slot, Store, StoreMark};
