@@ -1,0 +1,6 @@
+mod Firsts
+mod Bounds
+mod Looked
+mod Printing
+mod Written
+mod Turns
