@@ -187,7 +187,7 @@ going p budget used used' (e ∷ s) s' ns i (on c es rest m f r n g) =
     let one = step p budget used e s c es i m f r in
     let more = going p budget (used + resolutions_of c) used' (es ++ s) s' rest one.stack g in
     let count : length (printed_of (notes_of c ++ rest)) ≡ length (printed_of (notes_of c)) + length (printed_of rest) =
-        ap length (printed_append (notes_of c) rest) ∙ length-append (printed_of (notes_of c)) (printed_of rest) in
+    ap length (printed_append (notes_of c) rest) ∙ length-append (printed_of (notes_of c)) (printed_of rest) in
     let a = one.few in
     let b = more.few in
     subst (λ (x : List Note). Going p budget used (e ∷ s) x used') (sym n)

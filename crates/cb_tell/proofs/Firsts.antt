@@ -44,12 +44,12 @@ module _ (p : Program) (q : Query) (names : Names) (r : ℕ) where
       let fits : length (printed_of ns) ≤ length (printed_of ms) = omega (arith, count, wanted, most) in
       let same = same_prints p q r used used' ns ms s s' so so' fits in
       let front : take (length xs) (printed_of ns) ≡ printed_of before =
-          ap (λ (bs : List Branch). take (length xs) bs) printed ∙ ap (λ k. take k (printed_of before ++ b ∷ [])) (sym n) ∙ take-append_seam (printed_of before) (b ∷ []) in
+      ap (λ (bs : List Branch). take (length xs) bs) printed ∙ ap (λ k. take k (printed_of before ++ b ∷ [])) (sym n) ∙ take-append_seam (printed_of before) (b ∷ []) in
       let old : AreLines p names (printed_of before) xs = subst (λ (bs : List Branch). AreLines p names bs xs) front (f ns used s so here) in
       let new : AreLines p names (printed_of ns) (xs ++ x ∷ []) =
-          subst (λ (bs : List Branch). AreLines p names bs (xs ++ x ∷ [])) (sym printed) (lines_append p names (printed_of before) (b ∷ []) xs (x ∷ []) old (more_lines l no_lines)) in
+      subst (λ (bs : List Branch). AreLines p names bs (xs ++ x ∷ [])) (sym printed) (lines_append p names (printed_of before) (b ∷ []) xs (x ∷ []) old (more_lines l no_lines)) in
       let taken : take (length (xs ++ x ∷ [])) (printed_of ms) ≡ printed_of ns =
-          ap (λ k. take k (printed_of ms)) (wanted ∙ sym count) ∙ ap (λ (bs : List Branch). take (length (printed_of ns)) bs) same.1 ∙ take-append_seam (printed_of ns) same.0 in
+      ap (λ k. take k (printed_of ms)) (wanted ∙ sym count) ∙ ap (λ (bs : List Branch). take (length (printed_of ns)) bs) same.1 ∙ take-append_seam (printed_of ns) same.0 in
       subst (λ (bs : List Branch). AreLines p names bs (xs ++ x ∷ [])) (sym taken) new
 
   -- the last line

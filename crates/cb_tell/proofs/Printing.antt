@@ -46,7 +46,7 @@ pub items-more : (made : List ℕ) (vs : List (ℕ × Text)) (place : ℕ) (xs :
 items-more made vs place xs v x a e i =
     let within : place < length vs = slice_get_within vs place v e in
     let one : take (place + 1) vs ≡ take place vs ++ v ∷ [] =
-        take_more vs place v within ∙ ap (λ (w : ℕ × Text). take place vs ++ w ∷ []) (get_or_from_slice_get vs place v v e) in
+    take_more vs place v within ∙ ap (λ (w : ℕ × Text). take place vs ++ w ∷ []) (get_or_from_slice_get vs place v v e) in
     subst (λ (ws : List (ℕ × Text)). AreItems made ws (xs ++ x ∷ [])) (sym one) (items-append made (take place vs) xs v x a i)
 
 -- with the item of the next place

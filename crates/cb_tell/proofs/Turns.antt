@@ -294,8 +294,7 @@ module _ (s : Source) (a : Asked) (resolutions nodes : ℕ) (before mid : Option
         TurnTells s a resolutions nodes before after r r2 (Ok turn.Answered)
     line-told keeps after r2 l over w =
         let many : r2.answers ≡ r.answers + 1 = ap (λ (k : Run). k.answers) l.is ∙ f.counted in
-        let answers = answers-few p q resolutions f.notes f.used f.entries so in
-        (
+        let answers = answers-few p q resolutions f.notes f.used f.entries so in (
           many,
           record {
             lines = h.lines ++ w.line ∷ [];

@@ -1,5 +1,5 @@
 -- The words of a command name few bits.
-use Rattle.std.proofs.Common.{◌≡◌, ℕ, ◌≤◌, ◌<◌, Bool, true, false, ◌&&◌, not, nat_le, if◌then◌else◌, List, [], ◌∷◌, Option, Some, None, inl, inr, sym, ap, ◌∙◌, arith, codes, bytes_eq}
+use Rattle.std.proofs.Common.{◌≡◌, ℕ, ◌≤◌, ◌<◌, Bool, true, false, ◌&&◌, not, nat_le, if◌then◌else◌, List, [], ◌∷◌, Option, Some, None, inl, inr, refl, sym, ap, ◌∙◌, arith, codes, bytes_eq}
 use Rattle.std.specs.Option.{option_map}
 use Rattle.std.proofs.lemmas.Bool.{and_parts, cases_lt, true≢false}
 use Rattle.std.proofs.lemmas.Bool.Decides.{nat_tests}
@@ -15,7 +15,7 @@ le-true : (a b : ℕ) → nat_le a b ≡ true → a ≤ b
 le-true a b e = elim (cases_lt b a) [ inl lt ↦ absurd (true≢false (sym e ∙ gt-test a b lt)) | inr ge ↦ ge ]
 
 -- a number that is read is within its limits
-IsWithin : ℕ → Option ℕ → Type 0
+abbrev IsWithin : ℕ → Option ℕ → Type 0
 IsWithin limit None = Unit {0}
 IsWithin limit (Some n) = (1 ≤ n) × (n ≤ limit)
 
@@ -27,7 +27,7 @@ chosen-within limit n a b = by_case (a && b && nat_le 1 n && nat_le n limit) (λ
     by_case true f =
         let h = and_parts (a && b && nat_le 1 n) (nat_le n limit) (f refl) in
         let k = and_parts (a && b) (nat_le 1 n) h.0 in
-        le-true 1 n k.1, le-true n limit h.1
+        (le-true 1 n k.1, le-true n limit h.1)
 
 number-within : (limit : ℕ) (x : Text) → IsWithin limit (number_upto limit x)
 number-within limit x = chosen-within limit (digits_value 0 x) (is_number x) (not (leads_zero x))

@@ -16,7 +16,7 @@ tell_answer-requires g c =
     let a = c.args.query.now in
     let mid = g.O.Sink.written c.args.out.now in
     let f = next-answer s a q.0 q.1 q.2 mid c.args.engine.now c.args.none q.3 c.next.result c.next.new.self c.in-Ok-Answer.field-0 c.in-Ok-Answer.is c.in-Ok-Answer.field-0-is
-        c.next.ensures.again c.next.ensures.answer in
+    c.next.ensures.again c.next.ensures.answer in
     record { answered = answered s a q.0 q.1 q.2 mid c.args.engine.now c.args.none q.3 c.next.new.self f c.next.ensures.run }
 
 pub returns-in-Ok-clause-told : goal.returns-in-Ok-clause-told
@@ -25,9 +25,9 @@ returns-in-Ok-clause-told g c = λ k m b h.
     let a = c.args.query.now in
     let mid = g.O.Sink.written c.args.out.now in
     let f = next-answer s a k m b mid c.args.engine.now c.args.none h c.next.result c.next.new.self c.in-Ok-Answer.field-0 c.in-Ok-Answer.is c.in-Ok-Answer.field-0-is
-        c.next.ensures.again c.next.ensures.answer in
+    c.next.ensures.again c.next.ensures.answer in
     let over = next-on s a k m b mid c.args.engine.now c.args.none h c.next.result c.next.new.self c.in-Ok-Answer.field-0 c.in-Ok-Answer.is c.in-Ok-Answer.field-0-is
-        c.next.ensures.again c.next.ensures.over in
+    c.next.ensures.again c.next.ensures.over in
     line-told s a k m b mid c.args.engine.now c.args.none h c.next.new.self f c.next.ensures.run c.loan_keeps_the_run.ensures (g.O.Sink.written c.tell_answer.new.out) c.tell_answer.new.engine
     c.tell_answer.ensures.lent over c.in-Ok.ensures.told
 
@@ -38,7 +38,7 @@ returns-in-Err-Failed-clause-told g c = λ k m b h.
     let mid = g.O.Sink.written c.args.out.now in
     let after = g.O.Sink.written c.tell_answer.new.out in
     let f = next-answer s a k m b mid c.args.engine.now c.args.none h c.next.result c.next.new.self c.in-Ok-Answer.field-0 c.in-Ok-Answer.is c.in-Ok-Answer.field-0-is
-        c.next.ensures.again c.next.ensures.answer in
+    c.next.ensures.again c.next.ensures.answer in
     front-told s a k m b mid c.args.engine.now c.args.none h c.next.new.self f c.next.ensures.run after c.args.engine.now c.tell_answer.new.engine
     (subst (λ (z : Result (Unit {0}) ShowError). AnswerTells s a c.next.new.self.state mid after z) (c.in-Err-Failed.is ∙ ap (λ (z : ShowError). Err z) c.in-Err-Failed.field-0-is) c.tell_answer.ensures.told)
 
@@ -50,9 +50,9 @@ returns-in-Err-Stop-Nodes-clause-told g c = λ k m b h.
     let mid = g.O.Sink.written c.args.out.now in
     let after = g.O.Sink.written c.tell_answer.new.out in
     let f = next-answer s a k m b mid c.args.engine.now c.args.none h c.next.result c.next.new.self c.in-Ok-Answer.field-0 c.in-Ok-Answer.is c.in-Ok-Answer.field-0-is
-        c.next.ensures.again c.next.ensures.answer in
+    c.next.ensures.again c.next.ensures.answer in
     let t = subst (λ (z : Result (Unit {0}) ShowError). AnswerTells s a c.next.new.self.state mid after z)
-        (c.in-Err-Stop-Nodes.is ∙ ap (λ (z : ShowError). Err z) (c.in-Err-Stop-Nodes.field-0-is ∙ ap (λ (z : Stop). show.Stop z) c.in-Err-Stop-Nodes.field-0-0-is)) c.tell_answer.ensures.told in
+    (c.in-Err-Stop-Nodes.is ∙ ap (λ (z : ShowError). Err z) (c.in-Err-Stop-Nodes.field-0-is ∙ ap (λ (z : Stop). show.Stop z) c.in-Err-Stop-Nodes.field-0-0-is)) c.tell_answer.ensures.told in
     last-told s a k m b after c.args.engine.now c.args.none (silent h t.0) (codes "stopped: nodes") true
     (line-few s a k m b mid c.args.engine.now c.args.none h c.next.new.self f c.next.ensures.run t.1) _ refl (g.O.Sink.written c.finish.new.out) c.args.engine.now c.tell_answer.new.engine c.finish.result
     c.finish.ensures.told

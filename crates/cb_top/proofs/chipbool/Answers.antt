@@ -1,6 +1,11 @@
 use Rattle.std.proofs.Common.{sym, subst, ◌∙◌}
-use Rattle.cb_top.specs.Top.{Prints, IsRun, MayStop}
+use Rattle.std.specs.Prelude.{map, string_bytes}
+use Rattle.cb_top.specs.Top.{Prints, IsRun, MakesFew, MayStop}
+use Rattle.cb_top.proofs.Few.{words-few}
 use Rattle.cb_top.proofs.chipbool.Goals as goal
+
+pub over_command-requires : goal.over_command-requires
+over_command-requires g c = subst MakesFew (sym c.command_in-command.ensures) (words-few (map string_bytes c.args.words.now))
 
 pub returns-clause-prints : goal.returns-clause-prints
 returns-clause-prints g c =

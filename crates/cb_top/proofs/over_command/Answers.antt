@@ -10,5 +10,5 @@ returns-in-None-clause-ran g c = usage-ran _ _ _ _ _ _ (ap (option_map command_v
 
 pub returns-in-Some-Make-clause-ran : goal.returns-in-Some-Make-clause-ran
 returns-in-Some-Make-clause-ran g c =
-    let k : c.args.command ≡ Some (Make c.in-Some-Make.field-0-0 c.in-Some-Make.field-0-1) = search rules in
+    let k : c.args.command ≡ Some (Make c.in-Some-Make.bits c.in-Some-Make.nodes) = search rules in
     make-ran _ _ _ _ _ _ _ _ (ap (option_map command_view) k) c.make.ensures.says
