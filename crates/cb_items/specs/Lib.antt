@@ -3,3 +3,4 @@ pub mod Shifted
 pub mod Items
 pub mod Laws
 pub mod Instances
+pub mod Calls
