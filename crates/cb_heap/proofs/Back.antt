@@ -132,13 +132,13 @@ undo-is now t is m n im xs xe cs ce ss se =
 
 -- ---- the cells rewritten since
 
-slice_get-drop : (n : ℕ) (xs : List Change) (k : ℕ) → slice_get (drop n xs) k ≡ slice_get xs (n + k)
+pub slice_get-drop : (n : ℕ) (xs : List Change) (k : ℕ) → slice_get (drop n xs) k ≡ slice_get xs (n + k)
 slice_get-drop zero xs k = ap (λ j. slice_get xs j) (let e : k ≡ 0 + k = omega arith in e)
 slice_get-drop (suc n) [] k = refl
 slice_get-drop (suc n) (x ∷ xs) k = slice_get-drop n xs k ∙ ap (λ j. slice_get (x ∷ xs) j) (let e : suc (n + k) ≡ suc n + k = omega arith in e)
 
-pub listed-rewritten : (n : ℕ) (xs : List Change) (k : ℕ) → slice_get (map (λ (c : Change). c.cell) (drop n xs)) k ≡ option_map (λ (c : Change). c.cell) (slice_get xs (n + k))
-listed-rewritten n xs k = slice_get-map (λ (c : Change). c.cell) (drop n xs) k ∙ ap (λ (o : Option Change). option_map (λ (c : Change). c.cell) o) (slice_get-drop n xs k)
+pub cell-listed : (xs : List Change) (k : ℕ) (o : Option Change) → o ≡ slice_get xs k → option_map (λ (c : Change). c.cell) o ≡ slice_get (map (λ (c : Change). c.cell) xs) k
+cell-listed xs k o e = ap (λ (x : Option Change). option_map (λ (c : Change). c.cell) x) e ∙ sym (slice_get-map (λ (c : Change). c.cell) xs k)
 
 changed-listed : (xs : List Change) (cs : List Stored) (r : ℕ) → (slice_get (undone xs cs) r ≡ slice_get cs r → ⊥) → list_any (nat_eq r) (map (λ (c : Change). c.cell) xs) ≡ true
 changed-listed [] cs r h = absurd (h refl)

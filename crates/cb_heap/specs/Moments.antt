@@ -37,6 +37,10 @@ pub record KeepsMoments (old new : Terms) : Type 0 where
   pub moments : (m : Moment) → IsMoment m old → IsMoment m new
   pub same : (m : Moment) → IsMoment m old → reverted m new ≡ reverted m old
 
+-- the changes made since the moment, in order
+abbrev pub changes_since : Moment → Terms → List Change
+changes_since m t = drop m.trail t.trail
+
 -- the cells rewritten since the moment, in order
 abbrev pub rewritten_since : Moment → Terms → List ℕ
 rewritten_since m t = map (λ c. c.cell) (drop m.trail t.trail)

@@ -11,7 +11,7 @@ ghost use Rattle.cb_heap.specs.Finite.{AllFinite, IsChild, Names};
 ghost use Rattle.cb_heap.specs.Below.{IsBelow, Meets};
 ghost use Rattle.cb_heap.specs.Links.{IsLast, IsLinked, link_of};
 ghost use Rattle.cb_heap.specs.Heap.{Terms, IsAddable, IsBound, IsHeap, IsUnboundAt, no_terms, shown_as, sort_of, stored_as, with_cell, with_node, with_rewritten};
-ghost use Rattle.cb_heap.specs.Moments.{Moment, IsMoment, KeepsMoments, moment_of, reverted, rewritten_since, stored_since, undone};
+ghost use Rattle.cb_heap.specs.Moments.{Moment, IsMoment, KeepsMoments, changes_since, moment_of, reverted, rewritten_since, stored_since, undone};
 ghost use Rattle.cb_heap.specs.Laws.{BelowSame, DifferSomewhere, HasReading, OneBelow, TwoForms};
 
 mod below;
@@ -285,12 +285,23 @@ impl Heap {
         ensures listed { option_map (λ r. r.0) result ≡ slice_get (rewritten_since since self.now) k }
         ensures whole { (r : ℕ) → (stored_since since self.now r ≡ slice_get self.now.cells r → ⊥) → Contains (rewritten_since since self.now) r }
     {
+        match self.change(since, k) {
+            Some(change) => Some(Ref(change.cell)),
+            None => None,
+        }
+    }
+
+    /// The same cell with what stood in it until it was bound that time. It takes no memory.
+    pub fn change(&self, since: HeapMark, k: u64) -> Option<Change>
+        requires { IsMoment since self.now }
+        ensures { result ≡ slice_get (changes_since since self.now) k }
+    {
         let made = self.trail.mark() - since.trail;
         if made <= k {
             return None;
         }
         match self.trail.get(since.trail + k) {
-            Some(change) => Some(Ref(change.cell)),
+            Some(change) => Some(*change),
             None => None,
         }
     }

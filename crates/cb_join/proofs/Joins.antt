@@ -17,7 +17,8 @@ use Rattle.cb_heap.specs.Heap.{Terms}
 use Rattle.cb_heap.specs.Moments.{KeepsMoments}
 use Rattle.cb_heap.proofs.Steps.{some-inj, no_some, get-set-same, get-set-other, bound-step, same-step, leaf-left, cons-left, node-left, form-tells, one-sort}
 use Rattle.cb_heap.proofs.Rewriting.{linked-set, sorted-set, solid-stays, unbound-no-solid, solid-of}
-use Rattle.cb_join.specs.Joins.{Alike, owed_pairs, owed_leaves, owed_most, IsWithin, SlotsBelow, LeavesBelow, Rising, leaf_of, leaf_count, IsEnd, Joined, Clashes, Equated, KeepsLeaves, NoneAgree, work, work_of}
+use Rattle.cb_join.specs.Joins.{Alike, owed_pairs, owed_leaves, owed_most, IsWithin, SlotsBelow, LeavesBelow, Rising, leaf_of, leaf_count, IsEnd, Joined, Clashes, Equated, KeepsEnds, KeepsLeaves, NoneAgree, work, work_of}
+use Rattle.cb_join.proofs.Ends.{ends-bound}
 
 -- ---- lists
 
@@ -166,9 +167,9 @@ unbound-work (cell.Same to) u = absurd u
 
 pub equated-bound : (ss : List Sort) (cs : List Stored) (ps ls : List (ℕ × ℕ)) (l r : ℕ) → IsLinked cs → IsWithin cs ps → (v : ℕ) (to : Ref) (d : Stored) → slice_get cs v ≡ Some d → IsUnbound d →
     to.0 < length cs → (s : Sort) → slice_get ss v ≡ Some s → slice_get ss to.0 ≡ Some s →
-    ((g : Reading) → (g l ≡ g r) ↔ (g v ≡ g to.0)) → LinkFalls (slice_set cs v (cell.Bound to)) v (cell.Bound to) →
+    ((g : Reading) → (g l ≡ g r) ↔ (g v ≡ g to.0)) → LinkFalls (slice_set cs v (cell.Bound to)) v (cell.Bound to) → KeepsEnds cs (slice_set cs v (cell.Bound to)) →
     Equated ss cs ps ls l r (slice_set cs v (cell.Bound to)) ps ls
-equated-bound ss cs ps ls l r h wi v to d is u there s sv st turn falls = record {
+equated-bound ss cs ps ls l r h wi v to d is u there s sv st turn falls one = record {
   joined = λ t w g. (
     λ p. ((bound-step t w ss cs g v to d is u).0 (p.0, (turn g).0 p.1.0), p.1.1, p.2),
     λ q. let p = (bound-step t w ss cs g v to d is u).1 q.0 in (p.0, ((turn g).1 p.1, q.1), q.2),
@@ -180,6 +181,7 @@ equated-bound ss cs ps ls l r h wi v to d is u there s sv st turn falls = record
     slots = λ n a b. (slots-set n cs v (cell.Bound to) d is refl a, b);
     rises = λ n k o. rising-set n k cs v (cell.Bound to) refl o;
     fewer = let e = leaf-set cs v (cell.Bound to) d is in omega arith;
+    ends = one;
   };
   less = let e = work-set cs v (cell.Bound to) d is in let f = unbound-work d u in omega arith;
 }
@@ -236,10 +238,10 @@ owed-within cs h l r (cell.Node n k) (cell.Node m j) il ir al =
 owed-within cs h l r _ _ il ir al = absurd al
 
 pub equated-same : (ss : List Sort) (cs : List Stored) (ps ls : List (ℕ × ℕ)) (l r : ℕ) → IsLinked cs → IsWithin cs ps → (to : Ref) (a b : Stored) → to.0 ≡ l → l < r →
-    slice_get cs l ≡ Some a → slice_get cs r ≡ Some b → IsSolid a → IsSolid b → Alike a b → (s : Sort) → slice_get ss l ≡ Some s → slice_get ss r ≡ Some s →
+    slice_get cs l ≡ Some a → slice_get cs r ≡ Some b → IsSolid a → IsSolid b → Alike a b → (s : Sort) → slice_get ss l ≡ Some s → slice_get ss r ≡ Some s → KeepsEnds cs (slice_set cs r (cell.Same to)) →
     (ps' ls' : List (ℕ × ℕ)) → ps' ≡ ps ++ owed_pairs l r a b → ls' ≡ ls ++ owed_leaves a b →
     Equated ss cs ps ls l r (slice_set cs r (cell.Same to)) ps' ls'
-equated-same ss cs ps ls l r h wi to a b tl less il ir sa sb al s sl sr ps' ls' pe le =
+equated-same ss cs ps ls l r h wi to a b tl less il ir sa sb al s sl sr one ps' ls' pe le =
     subst (λ (xs : List (ℕ × ℕ)). Equated ss cs ps ls l r (slice_set cs r (cell.Same to)) xs ls') (sym pe)
     (subst (λ (xs : List (ℕ × ℕ)). Equated ss cs ps ls l r (slice_set cs r (cell.Same to)) (ps ++ owed_pairs l r a b) xs) (sym le) main)
   where
@@ -269,6 +271,7 @@ equated-same ss cs ps ls l r h wi to a b tl less il ir sa sb al s sl sr ps' ls' 
         slots = λ n x y. (slots-set n cs r (cell.Same to) b ir refl x, each-join _ ls (owed_leaves a b) y (leaves-owed n cs l r a b il ir al x));
         rises = λ n k o. rising-set n k cs r (cell.Same to) refl o;
         fewer = let e = leaf-set cs r (cell.Same to) b ir in let f = owed-fewer a b al in let g = length-append ls (owed_leaves a b) in omega arith;
+        ends = one;
       };
       less = let e = work-set cs r (cell.Same to) b ir in let f = owed-length l r a b al in let g = length-append ps (owed_pairs l r a b) in omega arith;
     }
@@ -351,7 +354,8 @@ module _ (ss : List Sort) (cs : List Stored) (ps ls : List (ℕ × ℕ)) (l r : 
   exit-young to tl same u cs' e = subst (λ (x : List Stored). Equated ss cs ps ls l r x ps ls) (sym e)
       (equated-bound ss cs ps ls l r h wi r to b ir u (let m = slice_get_within cs l a il in omega arith)
       z sr (ap (λ k. slice_get ss k) tl ∙ sl ∙ ap Some same)
-      (λ g. (λ x. sym x ∙ sym (ap g tl), λ x. sym (ap g tl) ∙ sym x)) (inl (omega arith)))
+      (λ g. (λ x. sym x ∙ sym (ap g tl), λ x. sym (ap g tl) ∙ sym x)) (inl (omega arith))
+      (ends-bound cs r b (cell.Bound to) to ir end-r refl (λ k. omega arith) (subst (IsEnd cs) (sym tl) ends.0)))
 
   old-falls : (to : Ref) → to.0 ≡ r → (IsUnbound b → ⊥) → LinkFalls (slice_set cs l (cell.Bound to)) l (cell.Bound to)
   old-falls to tr n = inr (b, ap (λ k. slice_get (slice_set cs l (cell.Bound to)) k) tr ∙ get-set-other cs l r (cell.Bound to) (λ k. omega arith) ∙ ir, solid-of b end-r n)
@@ -364,7 +368,8 @@ module _ (ss : List Sort) (cs : List Stored) (ps ls : List (ℕ × ℕ)) (l r : 
       (equated-bound ss cs ps ls l r h wi l to a il u (let m = slice_get_within cs r b ir in omega arith)
       s sl (ap (λ k. slice_get ss k) tr ∙ sr ∙ ap Some (sym same))
       (λ g. (λ x. x ∙ sym (ap g tr), λ x. x ∙ ap g tr))
-      (old-falls to tr n))
+      (old-falls to tr n)
+      (ends-bound cs l a (cell.Bound to) to il end-l refl (λ k. omega arith) (subst (IsEnd cs) (sym tr) ends.1)))
 
   pub exit-unlike : (IsUnbound a → ⊥) → (IsUnbound b → ⊥) → (Alike a b → ⊥) → Clashes ss cs l r
   exit-unlike nl nr na t w g q e = not-alike w g l r a b end-l end-r nl nr na (q.holds l a il) (q.holds r b ir) e
@@ -377,7 +382,8 @@ module _ (ss : List Sort) (cs : List Stored) (ps ls : List (ℕ × ℕ)) (l r : 
   pub exit-same : (to : Ref) → to.0 ≡ l → s ≡ z → (IsUnbound a → ⊥) → (IsUnbound b → ⊥) → Alike a b → (cs' : List Stored) → cs' ≡ slice_set cs r (cell.Same to) →
       (ps' ls' : List (ℕ × ℕ)) → ps' ≡ ps ++ owed_pairs l r a b → ls' ≡ ls ++ owed_leaves a b → Equated ss cs ps ls l r cs' ps' ls'
   exit-same to tl same nl nr al cs' e ps' ls' pe le = subst (λ (x : List Stored). Equated ss cs ps ls l r x ps' ls') (sym e)
-      (equated-same ss cs ps ls l r h wi to a b tl older il ir (solid-of a end-l nl) (solid-of b end-r nr) al s sl (sr ∙ ap Some (sym same)) ps' ls' pe le)
+      (equated-same ss cs ps ls l r h wi to a b tl older il ir (solid-of a end-l nl) (solid-of b end-r nr) al s sl (sr ∙ ap Some (sym same))
+      (ends-bound cs r b (cell.Same to) to ir end-r refl (λ k. omega arith) (subst (IsEnd cs) (sym tl) ends.0)) ps' ls' pe le)
 
 pub owed-below : (cs : List Stored) → IsLinked cs → (l r : ℕ) → (l < length cs) × (r < length cs) → (a b : Stored) → slice_get cs l ≡ Some a → slice_get cs r ≡ Some b → Alike a b → length cs < 2 ^ 64 →
     (l + owed_most a < 2 ^ 64) × (r + owed_most a < 2 ^ 64)
@@ -419,6 +425,7 @@ keeps-on ss cs0 ps0 ls0 zs cs cs' ls ls' same p r = record {
   slots = λ n a b. let x = p.slots n a b in q.slots n x.0 x.1;
   rises = λ n k o. q.rises n k (p.rises n k o);
   fewer = let a = q.fewer in let b = p.fewer in omega arith;
+  ends = λ r j h. q.ends r j (p.ends r j h);
 }
   where
     q : KeepsLeaves ss cs ls cs' ls'

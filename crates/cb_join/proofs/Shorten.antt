@@ -18,6 +18,7 @@ use Rattle.cb_heap.proofs.Rewriting.{linked-set, solid-stays, sorted-set}
 use Rattle.cb_heap.proofs.Steps.{get-set-other, holds-back, holds-into, holds-new, no_some, some-inj}
 use Rattle.cb_join.specs.Joins.{Clashes, Equated, IsEnd, IsEndOf, IsShortened, IsWithin, leaf_of, relinked, work_of}
 use Rattle.cb_join.specs.Cycle.{IsLinkTo}
+use Rattle.cb_join.proofs.Ends.{ends-short}
 use Rattle.cb_join.proofs.Joins.{keeps-on, leaf-set, rising-set, slots-set, work-set}
 
 -- ---- one link
@@ -170,7 +171,7 @@ leads-beside cs h at d r e (goes c to is l k) less =
     let f = chain-falls cs h r c to is l in
     goes c to (get-set-other cs at r d apart ∙ is) l (leads-beside cs h at d to.0 e k (omega (arith, f, less)))
 
-module _ (ss : List Sort) (cs : List Stored) (linked : IsLinked cs) (at : ℕ) (c : Stored) (to e : Ref) (is : slice_get cs at ≡ Some c) (li : link_of c ≡ Some to) (leads : LeadsTo cs to.0 e.0) (there : e.0 < length cs) where
+module _ (ss : List Sort) (cs : List Stored) (linked : IsLinked cs) (at : ℕ) (c : Stored) (to e : Ref) (is : slice_get cs at ≡ Some c) (li : link_of c ≡ Some to) (leads : LeadsTo cs to.0 e.0) (end : IsEnd cs e.0) where
   abbrev after : List Stored
   after = slice_set cs at (relinked c e)
 
@@ -195,7 +196,10 @@ module _ (ss : List Sort) (cs : List Stored) (linked : IsLinked cs) (at : ℕ) (
       (new-falls after at c to e li
       (elim (bound-end cs linked at to.0 e.0 leads f.0) [ inl a ↦ inl a | inr s ↦ inr (solid-stays cs at (relinked c e) c is keep e.0 s) ])
       (λ s. let x = f.1 s in let y = same-end cs linked at to.0 e.0 leads x.0 x.1 in (y.0, solid-stays cs at (relinked c e) c is keep e.0 y.1)))
-      (λ j n. subst (λ k. k < length cs) (sym (only-child at (relinked c e) e j (relinked-link c e) n)) there)
+      (λ j n. subst (λ k. k < length cs) (sym (only-child at (relinked c e) e j (relinked-link c e) n)) (slice_get_within cs e.0 end.0 end.1))
+
+  still-end : (r : ℕ) → IsEnd cs r → IsEnd after r
+  still-end r h = (h.0, get-set-other cs at r (relinked c e) (λ same. no_some (link_of c) to (subst (λ x. link_of x ≡ None) (some-inj h.0 c (sym h.1 ∙ ap (λ k. slice_get cs k) same ∙ is)) h.2) li) ∙ h.1, h.2)
 
   pub link-shortened : IsShortened ss cs after
   link-shortened = record {
@@ -203,12 +207,13 @@ module _ (ss : List Sort) (cs : List Stored) (linked : IsLinked cs) (at : ℕ) (
       λ q. record { fits = q.fits; holds = holds-into w cs g at (relinked c e) c is q.holds (link-says w g at (relinked c e) e (relinked-link c e) (link-value w g at c to li (q.holds at c is) ∙ leads-value w g cs q.holds to.0 e.0 leads)) },
       λ q. record { fits = q.fits; holds = holds-back w cs g at (relinked c e) c is q.holds (link-says w g at c to li (link-value w g at (relinked c e) e (relinked-link c e) (holds-new w cs g at (relinked c e) c is q.holds) ∙ sym (leads-value w g after q.holds to.0 e.0 still-leads))) },
     );
-    ends = λ r h. (h.0, get-set-other cs at r (relinked c e) (λ same. no_some (link_of c) to (subst (λ x. link_of x ≡ None) (some-inj h.0 c (sym h.1 ∙ ap (λ k. slice_get cs k) same ∙ is)) h.2) li) ∙ h.1, h.2);
+    ends = still-end;
     keeps = λ ls. record {
       sorted = λ t o. let q = link-sort t ss at c to li (o.cells at c is) in sorted-set cs at (relinked c e) c is t ss o (link-sorted t ss at c e q.0 q.1 (leads-sort t ss cs o to.0 e.0 leads q.0 q.2));
       slots = λ n a b. (slots-set n cs at (relinked c e) c is (no-work (relinked c e) e (relinked-link c e)).2 a, b);
       rises = λ n k o. rising-set n k cs at (relinked c e) (no-work (relinked c e) e (relinked-link c e)).2 o;
       fewer = let x = leaf-set cs at (relinked c e) c is in let a = (no-work c to li).1 in let b = (no-work (relinked c e) e (relinked-link c e)).1 in omega (arith, x, a, b);
+      ends = ends-short cs at c (relinked c e) to e is li (relinked-link c e) leads end still-end;
     };
     number = length-set cs at (relinked c e);
     work = let x = work-set cs at (relinked c e) c is in let a = (no-work c to li).0 in let b = (no-work (relinked c e) e (relinked-link c e)).0 in omega (arith, x, a, b);
@@ -218,7 +223,7 @@ pub none-shortened : (ss : List Sort) (cs : List Stored) → IsShortened ss cs c
 none-shortened ss cs = record {
   reads = λ t w g. (λ q. q, λ q. q);
   ends = λ r h. h;
-  keeps = λ ls. record { sorted = λ t o. o; slots = λ n a b. (a, b); rises = λ n k o. o; fewer = omega arith };
+  keeps = λ ls. record { sorted = λ t o. o; slots = λ n a b. (a, b); rises = λ n k o. o; fewer = omega arith; ends = λ r j h. h };
   number = refl;
   work = refl;
 }
@@ -232,20 +237,13 @@ shortened-then ss a b d p q = record {
     slots = λ n x y. let z = (p.keeps ls).slots n x y in (q.keeps ls).slots n z.0 z.1;
     rises = λ n k o. (q.keeps ls).rises n k ((p.keeps ls).rises n k o);
     fewer = let x = (p.keeps ls).fewer in let y = (q.keeps ls).fewer in omega (arith, x, y);
+    ends = λ r j h. (q.keeps ls).ends r j ((p.keeps ls).ends r j h);
   };
   number = q.number ∙ p.number;
   work = q.work ∙ p.work;
 }
 
 -- ---- the end of a way
-
--- what is known of a way that leads through a link
-pub way-on : (cs : List Stored) (at e : ℕ) (to : Ref) → LeadsTo cs at e → IsEnd cs e → IsLinkTo cs at to → LeadsTo cs to.0 e
-way-on cs at e to arrives end link = absurd (no_some (link_of link.0) to (subst (λ x. link_of x ≡ None) (some-inj end.0 link.0 (sym end.1 ∙ link.1)) end.2) link.2)
-way-on cs at e to (goes c x is l k) end link =
-    let same : c ≡ link.0 = some-inj c link.0 (sym is ∙ link.1) in
-    let one : x ≡ to = some-inj x to (sym l ∙ ap link_of same ∙ link.2) in
-    subst (λ (y : Ref). LeadsTo cs y.0 e) one k
 
 pub link-here : (cs : List Stored) (at : ℕ) (c : Stored) (to : Ref) → slice_get cs at ≡ Some c → IsLinkTo cs at to → link_of c ≡ Some to
 link-here cs at c to is link = ap link_of (some-inj c link.0 (sym is ∙ link.1)) ∙ link.2

@@ -1,25 +1,20 @@
 -- The way down from a cell, and what a step of the search makes of it.
-use Rattle.std.proofs.Common.{◌≡◌, ◌≢◌, ◌⊎◌, inl, inr, ℕ, zero, suc, ◌+◌, ◌-◌, ◌^◌, ◌<◌, ◌≤◌, Bool, nat_lt, if◌then◌else◌, List, [], ◌∷◌, ◌++◌, length, map, take, drop, Option, Some, None, refl, sym, ap, subst, ◌∙◌, arith, Result, Ok, Err}
+use Rattle.std.proofs.Common.{◌≡◌, ◌≢◌, ◌⊎◌, inl, inr, ℕ, zero, suc, ◌+◌, ◌-◌, ◌^◌, ◌<◌, ◌≤◌, Bool, nat_lt, if◌then◌else◌, List, [], ◌∷◌, ◌++◌, length, map, Option, Some, None, refl, sym, ap, subst, ◌∙◌, arith, Result, Ok, Err}
 use Rattle.std.specs.Prelude.{slice_get, slice_set, get_or}
-use Rattle.std.specs.Option.{option_map, option_map_or}
+use Rattle.std.specs.Option.{option_map_or}
 use Rattle.std.proofs.lemmas.Bool.{cases_eq, cases_lt, lt-ltb, ltb-true}
 use Rattle.std.proofs.lemmas.Option.{slice_get_within, slice_get-get_or}
 use Rattle.std.proofs.lemmas.List.{length-set}
-use Rattle.std.proofs.Math.Seq.{take-length}
 use Rattle.cb_model.specs.Bits.{Bits, Each, numbers_from}
 use Rattle.cb_model.specs.Values.{grounds}
 use Rattle.cb_heap.specs.declared.Stored.{Stored}
 use Rattle.cb_heap.specs.declared.Stored.TheVariants as cell
 use Rattle.cb_heap.specs.declared.Ref.{Ref}
-use Rattle.cb_heap.specs.declared.Change.{Change}
 use Rattle.cb_heap.specs.Reading.{Reading, CellHolds, CellsHold}
 use Rattle.cb_heap.specs.Finite.{IsFinite, AllFinite, ends, IsChild, Names}
 use Rattle.cb_heap.specs.Links.{IsLast, IsLinked, link_of, chain}
-use Rattle.cb_heap.specs.Heap.{Terms, IsHeap}
-use Rattle.cb_heap.specs.Moments.{Moment, reverted, rewritten_since, undone}
 use Rattle.cb_heap.proofs.Chains.{only-child, link-value, chain-falls}
 use Rattle.cb_heap.proofs.Steps.{some-inj, no_some, get-set-same, get-set-other}
-use Rattle.cb_heap.proofs.Facts.{all-finite}
 use Rattle.cb_join.specs.declared.cycle.Mark.{Mark}
 use Rattle.cb_join.specs.declared.cycle.Mark.TheVariants as mark
 use Rattle.cb_join.specs.declared.cycle.Frame.{Frame}
@@ -577,71 +572,3 @@ none-noted ms met h e r mark.Done at = absurd (subst (λ (x : List ℕ). IsMetIn
 
 pub new-noted : (ms : List Mark) (met : List ℕ) → AreNew ms → met ≡ [] → IsNoted ms met
 new-noted ms met n e = subst (λ (x : List ℕ). IsNoted ms x) (sym e) (record { listed = λ r m at k. absurd (k (n r m at)); within = tt })
-
--- ---- rewritten cells
-
-not-rewritten : (xs : List Change) (cs : List Stored) (r : ℕ) → ((k : ℕ) × (slice_get (map (λ (c : Change). c.cell) xs) k ≡ Some r)) ⊎ (slice_get (undone xs cs) r ≡ slice_get cs r)
-not-rewritten [] cs r = inr refl
-not-rewritten (x ∷ xs) cs r = elim (cases_eq r x.cell) [
-  | inl same ↦ inl (0, ap Some (sym same))
-  | inr other ↦ elim (not-rewritten xs cs r) [
-    | inl h ↦ inl (suc h.0, h.1)
-    | inr e ↦ inr (get-set-other (undone xs cs) x.cell r x.old other ∙ e)
-  ]
-]
-
-listed-within : (n : ℕ) (xs : List Change) → Each (λ x. x.cell < n) xs → (k r : ℕ) → slice_get (map (λ (c : Change). c.cell) xs) k ≡ Some r → r < n
-listed-within n [] h k r e = absurd (no_some _ r refl e)
-listed-within n (x ∷ xs) h zero r e = subst (λ q. q < n) (some-inj x.cell r e) h.0
-listed-within n (x ∷ xs) h (suc k) r e = listed-within n xs h.1 k r e
-
-each-drop : (P : Change → Type 0) (n : ℕ) (xs : List Change) → Each P xs → Each P (drop n xs)
-each-drop P zero xs h = h
-each-drop P (suc n) [] h = h
-each-drop P (suc n) (x ∷ xs) h = each-drop P n xs h.1
-
-pub bound-within : (t : Terms) (m : Moment) → IsHeap t → (k : ℕ) (o : Option Ref) → option_map (λ (r : Ref). r.0) o ≡ slice_get (rewritten_since m t) k → (r : Ref) → o ≡ Some r → r.0 < length t.cells
-bound-within t m h k o e r is = listed-within (length t.cells) (drop m.trail t.trail) (each-drop _ m.trail t.trail h.trail) k r.0 (sym e ∙ ap (λ (x : Option Ref). option_map (λ (q : Ref). q.0) x) is)
-
-ref-of : (o : Option Ref) (j : ℕ) → option_map (λ (r : Ref). r.0) o ≡ Some j → (r : Ref) × (o ≡ Some r) × (r.0 ≡ j)
-ref-of None j e = absurd (no_some _ j refl e)
-ref-of (Some r) j e = (r, refl, some-inj r.0 j e)
-
--- one root more
-pub more-ends : (t : Terms) (m : Moment) (k below : ℕ) (o : Option Ref) → option_map (λ (r : Ref). r.0) o ≡ slice_get (rewritten_since m t) k →
-    ((j r : ℕ) → j < k → slice_get (rewritten_since m t) j ≡ Some r → r < below → IsFinite t.cells r) → ((r : Ref) → o ≡ Some r → r.0 < below → IsFinite t.cells r.0) →
-    (j r : ℕ) → j < k + 1 → slice_get (rewritten_since m t) j ≡ Some r → r < below → IsFinite t.cells r
-more-ends t m k below o e before new j r less at small = elim (cases_eq j k) [
-  | inl same ↦
-      let x = ref-of o r (e ∙ ap (λ q. slice_get (rewritten_since m t) q) (sym same) ∙ at) in
-      subst (IsFinite t.cells) x.2 (new x.0 x.1 (subst (λ q. q < below) (sym x.2) small))
-  | inr other ↦ before j r (omega (arith, less, other)) at small
-]
-
-pub ends-all : (t : Terms) (m : Moment) (n below : ℕ) → length (rewritten_since m t) ≤ n → ((j r : ℕ) → j < n → slice_get (rewritten_since m t) j ≡ Some r → r < below → IsFinite t.cells r) →
-    (k r : ℕ) → slice_get (rewritten_since m t) k ≡ Some r → r < below → IsFinite t.cells r
-ends-all t m n below h before k r at small = before k r (let a = slice_get_within (rewritten_since m t) k r at in omega (arith, a, h)) at small
-
-module _ (t : Terms) (m : Moment) (number : m.cells ≡ length t.cells) (before : AllFinite (reverted m t).cells) where
-  abbrev then_is : List Stored
-  then_is = (reverted m t).cells
-
-  rewritten-or : (r : ℕ) → ((k : ℕ) × (slice_get (rewritten_since m t) k ≡ Some r)) ⊎ (slice_get then_is r ≡ slice_get t.cells r)
-  rewritten-or r = subst (λ (xs : List Stored). ((k : ℕ) × (slice_get (rewritten_since m t) k ≡ Some r)) ⊎ (slice_get (undone (drop m.trail t.trail) xs) r ≡ slice_get t.cells r))
-      (sym (ap (λ n. take n t.cells) number ∙ take-length t.cells)) (not-rewritten (drop m.trail t.trail) t.cells r)
-
-  module _ (n : ℕ) (closed : IsClosed n then_is) (roots : (k r : ℕ) → slice_get (rewritten_since m t) k ≡ Some r → r < n → IsFinite t.cells r) where
-    low : (r : ℕ) → IsFinite then_is r → r < n → IsFinite t.cells r
-    low r (ends f) less = elim (rewritten-or r) [
-      | inl h ↦ roots h.0 r h.1 less
-      | inr e ↦ ends (λ j child. let old : IsChild then_is r j = (child.0, e ∙ child.1, child.2) in low j (f j old) (closed r j less old))
-    ]
-
-    pub settled-finite : AreFinite t.cells n
-    settled-finite r less = low r (before r) less
-
-  pub whole-finite : (n : ℕ) → n ≡ length t.cells → ((k r : ℕ) → slice_get (rewritten_since m t) k ≡ Some r → r < n → IsFinite t.cells r) → AllFinite t.cells
-  whole-finite n e roots = all-finite then_is t.cells before (λ r. elim (rewritten-or r) [
-    | inl h ↦ inr (elim (cases_lt r n) [ inl less ↦ roots h.0 r h.1 less | inr more ↦ past-finite t.cells r (omega arith) ])
-    | inr same ↦ inl (sym same)
-  ])

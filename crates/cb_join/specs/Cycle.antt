@@ -12,9 +12,10 @@ use Rattle.cb_heap.specs.Reading.{Reading, CellsHold}
 use Rattle.cb_heap.specs.Finite.{IsFinite, IsChild}
 use Rattle.cb_join.specs.declared.cycle.Work.{Work}
 use Rattle.cb_heap.specs.declared.Ref.{Ref}
+use Rattle.cb_heap.specs.declared.Change.{Change}
 use Rattle.cb_heap.specs.Links.{link_of}
 use Rattle.cb_heap.specs.Heap.{Terms}
-use Rattle.cb_heap.specs.Moments.{Moment, rewritten_since}
+use Rattle.cb_heap.specs.Moments.{Moment, changes_since}
 use Rattle.cb_join.specs.Joins.{IsEnd}
 
 -- how many cells a cell names, but for where a link leads
@@ -172,6 +173,7 @@ pub record IsIdle (cs : List Stored) (floor : ℕ) (w : Work) : Type 0 where
 abbrev pub Steps : List Stored → Work → Frame → Work → Type 0
 Steps cs w f w' = Goes cs w.marks.items w.way.items f w'.marks.items w'.way.items
 
--- every way down ends from the cells that were rewritten since the moment and have numbers below this one
+-- every way down ends from the cells that have numbers below this one and were rewritten since the moment, where no link
+-- stood until then
 abbrev pub RootsEnd : Terms → Moment → ℕ → Type 0
-RootsEnd t m below = (k r : ℕ) → slice_get (rewritten_since m t) k ≡ Some r → r < below → IsFinite t.cells r
+RootsEnd t m below = (k : ℕ) (c : Change) → slice_get (changes_since m t) k ≡ Some c → link_of c.old ≡ None → c.cell < below → IsFinite t.cells c.cell

@@ -9,7 +9,7 @@ use Rattle.cb_heap.specs.declared.Stored.TheVariants as cell
 use Rattle.cb_heap.specs.Reading.{Reading, IsReading, Agree, AgreeBits, side_by_side}
 use Rattle.cb_heap.specs.Finite.{IsSorted}
 use Rattle.cb_heap.specs.Heap.{Terms}
-use Rattle.cb_heap.specs.Links.{IsLinked, link_of}
+use Rattle.cb_heap.specs.Links.{IsLinked, LeadsTo, link_of}
 use Rattle.cb_join.specs.declared.Owed.{Owed}
 
 -- the same outermost form
@@ -88,12 +88,22 @@ leaf_count (c ∷ cs) = leaf_of c + leaf_count cs
 abbrev pub LeavesBelow : ℕ → List (ℕ × ℕ) → Type 0
 LeavesBelow n ls = Each (λ q. (q.0 < n) × (q.1 < n)) ls
 
--- what joining cells keeps: the sorts, the leaves' slots in their order, and that there are no more slots than before
+-- the links from both cells lead to one cell, where no link stands
+abbrev pub HaveOneEnd : List Stored → ℕ → ℕ → Type 0
+HaveOneEnd cs r j = (e : ℕ) × LeadsTo cs r e × LeadsTo cs j e × IsEnd cs e
+
+-- cells that had one end have one
+abbrev pub KeepsEnds : List Stored → List Stored → Type 0
+KeepsEnds cs cs' = (r j : ℕ) → HaveOneEnd cs r j → HaveOneEnd cs' r j
+
+-- what joining cells keeps: the sorts, the leaves' slots in their order, that there are no more slots than before, and
+-- that cells had one end
 pub record KeepsLeaves (ss : List Sort) (cs : List Stored) (ls : List (ℕ × ℕ)) (cs' : List Stored) (ls' : List (ℕ × ℕ)) : Type 0 where
   pub sorted : (t : Sorts) → IsSorted t ss cs → IsSorted t ss cs'
   pub slots : (n : ℕ) → SlotsBelow n cs → LeavesBelow n ls → SlotsBelow n cs' × LeavesBelow n ls'
   pub rises : (n k : ℕ) → Rising n k cs → Rising n k cs'
   pub fewer : length ls' + leaf_count cs' ≤ length ls + leaf_count cs
+  pub ends : KeepsEnds cs cs'
 
 -- Cells l and r were made one: what is left says the same, and there is less to do.
 pub record Equated (ss : List Sort) (cs : List Stored) (ps ls : List (ℕ × ℕ)) (l r : ℕ) (cs' : List Stored) (ps' ls' : List (ℕ × ℕ)) : Type 0 where

@@ -3,9 +3,11 @@
 ghost use Rattle.std.specs.Prelude.{◌≡◌, ◌⊎◌, ℕ, ◌+◌, ◌<◌, ◌≤◌, ◌^◌, [], ◌∷◌, ◌++◌, length, slice_get, true, false, Some, None, Ok, OnOk, take};
 ghost use Rattle.cb_heap.specs.Finite.{AllFinite, IsFinite};
 ghost use Rattle.cb_heap.specs.Heap.{IsHeap};
-ghost use Rattle.cb_heap.specs.Links.{LeadsTo};
-ghost use Rattle.cb_heap.specs.Moments.{IsMoment, reverted, rewritten_since};
+ghost use Rattle.cb_heap.specs.Links.{LeadsTo, link_of};
+ghost use Rattle.cb_heap.specs.Moments.{IsMoment, changes_since, reverted};
+ghost use Rattle.cb_heap.specs.declared.Change.{Change};
 ghost use Rattle.cb_join.specs.Cycle.{AreNew, HasNoReading, IsClosed, IsDone, IsDoneOrEnd, IsIdle, IsLinkTo, IsNoted, IsSearch, MoreDone, RootsEnd, StaysMet, Steps, child_of};
+ghost use Rattle.cb_join.specs.Joins.{KeepsEnds};
 ghost use Rattle.cb_join.specs.declared.cycle.Mark.TheVariants as mark;
 
 use cb_heap::{Heap, HeapMark, Ref, Stored};
@@ -69,7 +71,8 @@ impl Search {
 
 /// Whether no cell leads back to itself, where none did at a moment since which cells were rewritten and none was
 /// added. Cells before `settled` named none behind it then: unless one of them was rewritten, no way from a later cell
-/// into them comes back, so the search doesn't go there.
+/// into them comes back, so the search doesn't go there. A link that was led to the end of its way is no new way down, so
+/// the search doesn't begin there: with short ways to long terms it costs what is new, not what it leads to.
 ///
 /// It meets each cell once, links as well, depth first (Tarjan 1972), with a list in place of recursion.
 pub fn is_finite(
@@ -83,6 +86,7 @@ pub fn is_finite(
     requires none_added { since.cells ≡ length heap.now.cells }
     requires before { AllFinite (reverted since heap.now).cells }
     requires settled { IsClosed settled (reverted since heap.now).cells }
+    requires ends { KeepsEnds (reverted since heap.now).cells heap.now.cells }
     ensures finite { result ≡ Ok true → AllFinite heap.now.cells }
     ensures cycle { result ≡ Ok false → HasNoReading heap.now.cells }
 {
@@ -91,8 +95,8 @@ pub fn is_finite(
     found
 }
 
-// Searches from the rewritten cells: first from those that are settled, to wherever they lead; then from all, and what
-// is settled is done.
+// Searches from the rewritten cells where no link stood: first from those that are settled, to wherever they lead; then
+// from all, and what is settled is done.
 fn rewritten_end(
     heap: &Heap,
     work: &mut Work,
@@ -104,6 +108,7 @@ fn rewritten_end(
     requires none_added { since.cells ≡ length heap.now.cells }
     requires before { AllFinite (reverted since heap.now).cells }
     requires settled { IsClosed settled (reverted since heap.now).cells }
+    requires ends { KeepsEnds (reverted since heap.now).cells heap.now.cells }
     requires new { AreNew work.old.marks.items }
     requires empty { (work.old.met.items ≡ []) × (work.old.way.items ≡ []) }
     ensures finite { result ≡ Ok true → AllFinite heap.now.cells }
@@ -145,8 +150,8 @@ fn clear(work: &mut Work)
     work.way.clear();
 }
 
-// Whether every way down ends from the cells that were rewritten since the moment and have numbers below `below`;
-// those below the floor are done.
+// Whether every way down ends from the cells that have numbers below `below` and were rewritten since the moment, where
+// no link stood until then; those below the floor are done.
 fn roots_end(
     heap: &Heap,
     floor: usize,
@@ -163,11 +168,30 @@ fn roots_end(
     ensures idle { result ≡ Ok true → IsIdle heap.now.cells floor work.new }
 {
     for k in 0..heap.count_bound(since) {
-        if !root_ends(heap, floor, work, heap.bound(since, k), below)? {
+        if !root_ends(heap, floor, work, new_link(heap, since, k), below)? {
             return Ok(false);
         }
     }
     Ok(true)
+}
+
+// The k-th of the cells that were rewritten since the moment, if no link stood there until then.
+fn new_link(heap: &Heap, since: HeapMark, k: u64) -> Option<Ref>
+    requires heap { IsHeap heap.now }
+    requires since { IsMoment since heap.now }
+    ensures there { (r : Ref) → result ≡ Some r → r.0 < length heap.now.cells }
+    ensures new { (c : Change) → slice_get (changes_since since heap.now) k ≡ Some c → link_of c.old ≡ None → result ≡ Some (record { 0 = c.cell }) }
+{
+    match heap.change(since, k) {
+        Some(change) => {
+            match change.old {
+                Stored::Bound(_) => None,
+                Stored::Same(_) => None,
+                _ => Some(Ref(change.cell)),
+            }
+        }
+        None => None,
+    }
 }
 
 // Whether every way down from the cell ends, if there is one and its number is below `below`.

@@ -104,7 +104,8 @@ fn relink(heap: &mut Heap, at: usize, to: Ref, end: Ref) -> Result<(), AllocErro
     requires heap { IsHeap heap.old }
     requires link { IsLinkTo heap.old.cells at to }
     requires leads { LeadsTo heap.old.cells to.0 end.0 }
-    requires there { (at < length heap.old.cells) × (end.0 < length heap.old.cells) }
+    requires end { IsEnd heap.old.cells end.0 }
+    requires there { at < length heap.old.cells }
     ensures shortened { OnOk result (IsShortened heap.old.sorts heap.old.cells heap.new.cells) }
     ensures leads { OnOk result (LeadsTo heap.new.cells to.0 end.0) }
     ensures less { OnOk result (chain heap.new.cells to.0 < chain heap.old.cells at) }

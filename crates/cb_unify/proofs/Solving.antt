@@ -28,7 +28,7 @@ use Rattle.cb_heap.specs.Reading.{Reading, IsReading, Agree, AgreeBits}
 use Rattle.cb_heap.proofs.Back.{moment-now}
 use Rattle.cb_heap.proofs.Values.{has-reading}
 use Rattle.cb_join.specs.Cycle.{HasNoReading, IsClosed}
-use Rattle.cb_join.specs.Joins.{IsWithin, Joined, KeepsLeaves, LeavesBelow, NoneAgree, Rising, SlotsBelow}
+use Rattle.cb_join.specs.Joins.{IsWithin, Joined, KeepsEnds, KeepsLeaves, LeavesBelow, NoneAgree, Rising, SlotsBelow}
 use Rattle.cb_join.proofs.Joins.{rising-count}
 use Rattle.cb_unify.specs.Moments.{KeepsMoments as StateKeeps}
 use Rattle.cb_unify.specs.Solve.{AreCells, IsSettled, NoBits, OnlyRewritten, SolvesPairs, cells_of, seen_of, solve_most, width}
@@ -254,6 +254,9 @@ module _ (old new : Terms) (is : IsHeap old) (k : KeepsMoments old new) (m : Mom
 
   pub then-closed : (n : ℕ) → IsClosed n old.cells → IsClosed n (reverted m new).cells
   then-closed n c = subst (λ (x : Terms). IsClosed n x.cells) (sym then-old) c
+
+  pub then-ends : KeepsEnds old.cells new.cells → KeepsEnds (reverted m new).cells new.cells
+  then-ends e = subst (λ (x : Terms). KeepsEnds x.cells new.cells) (sym then-old) e
 
   pub then-number : IsHeap new → new.sorts ≡ old.sorts → m.cells ≡ length new.cells
   then-number is' e =

@@ -4,7 +4,8 @@ use Rattle.cb_heap.proofs.Back.{keeps-none}
 use Rattle.cb_join.specs.Joins.{IsShortened}
 use Rattle.cb_join.proofs.Follow.{link-there}
 use Rattle.cb_join.proofs.Joins.{keeps-then}
-use Rattle.cb_join.proofs.Shorten.{end-of, end-there, last-end, none-shortened, shortened-then, still-there, way-on}
+use Rattle.cb_join.proofs.Ends.{way-on}
+use Rattle.cb_join.proofs.Shorten.{end-of, last-end, none-shortened, shortened-then, still-there}
 use Rattle.cb_join.proofs.end_of.Goals as goal
 
 pub links-init : goal.links-init
@@ -22,9 +23,6 @@ links-init c =
 pub relink-requires-clause-leads : goal.relink-requires-clause-leads
 relink-requires-clause-leads c =
     way-on c.links.heap.cells c.links.at c.last-end.result.0 c.in-Some.to c.links.invariant.leads c.links.invariant.end (c.far_link.ensures c.in-Some.to c.in-Some.is)
-
-pub relink-requires-clause-there : goal.relink-requires-clause-there
-relink-requires-clause-there c = (c.links.invariant.there, end-there c.links.heap.cells c.last-end.result.0 c.links.invariant.end)
 
 pub links-smaller : goal.links-smaller
 links-smaller c = c.in_ok-relink.ensures.less

@@ -2,7 +2,7 @@ use Rattle.std.proofs.Common.{ℕ, List, length, ap, sym, subst, Ok}
 use Rattle.cb_elim.specs.Pairs.{AreSlots}
 use Rattle.cb_elim.specs.Store.{view_of}
 use Rattle.cb_unify.specs.Solve.{NoBits, SolvesPairs}
-use Rattle.cb_unify.proofs.Solving.{all-solved, bits-none, cause-from, clash-none, cycle-none, none-owed, owed-bound, owed-slots, pending-within, room-from, then-closed}
+use Rattle.cb_unify.proofs.Solving.{all-solved, bits-none, cause-from, clash-none, cycle-none, none-owed, owed-bound, owed-slots, pending-within, room-from, then-closed, then-ends}
 use Rattle.cb_unify.proofs.solve.attempt.Goals as goal
 
 pub join-requires-clause-within : goal.join-requires-clause-within
@@ -16,6 +16,11 @@ returns-in-Ok-false-clause-none c _ =
 pub is_finite-requires-clause-settled : goal.is_finite-requires-clause-settled
 is_finite-requires-clause-settled c =
     then-closed c.args.heap.now c.join.new.heap c.requires.state.heap c.in-Ok-true.ensures.moments c.mark-since.result c.mark-since.ensures.moment c.mark-since.ensures.now c.args.settled c.requires.settled
+
+pub is_finite-requires-clause-ends : goal.is_finite-requires-clause-ends
+is_finite-requires-clause-ends c =
+    then-ends c.args.heap.now c.join.new.heap c.requires.state.heap c.in-Ok-true.ensures.moments c.mark-since.result c.mark-since.ensures.moment c.mark-since.ensures.now
+    (c.in-Ok-true.ensures.keeps (ap Ok c.in-Ok-true.field-0-test)).ends
 
 pub returns-in-Ok-false-is_finite-clause-none : goal.returns-in-Ok-false-is_finite-clause-none
 returns-in-Ok-false-is_finite-clause-none c _ =
