@@ -1,0 +1,4 @@
+pub mod Parked
+pub mod Ready
+pub mod Asking
+pub mod Laws
