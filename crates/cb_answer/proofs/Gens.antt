@@ -8,7 +8,7 @@ use Rattle.cb_model.specs.Derivation.{Branch}
 use Rattle.cb_model.specs.Program.{Program}
 use Rattle.cb_model.specs.Answers.{Gen, IsShape}
 use Rattle.cb_model.specs.Answers.{Gives as Shows}
-use Rattle.cb_model.specs.Line.{AreGen, parameters, printed_terms}
+use Rattle.cb_model.specs.Line.{Names, AreGen, parameters, printed_terms}
 use Rattle.cb_laws.proofs.OpenTrees.{Plains, all_leaves}
 use Rattle.cb_boole.specs.Elimination.{Function}
 use Rattle.cb_boole.specs.Parametric.{Allows, values_at}
@@ -22,7 +22,9 @@ use Rattle.cb_unify.specs.State.{Seen, Reads, Gives, FitsTable, IsState}
 use Rattle.cb_items.specs.Standing.{IsVals}
 use Rattle.cb_answer.specs.Lines.{spread_all}
 use Rattle.cb_answer.specs.Writing.{leaf_slots}
-use Rattle.cb_answer.specs.Answering.{LeavesAreRight}
+use Rattle.cb_answer.specs.declared.Item.{Item}
+use Rattle.cb_answer.specs.Answering.{Tells}
+use Rattle.cb_answer.proofs.Called.{AreTermsOf}
 use Rattle.cb_answer.proofs.Found.{PointOf, found}
 use Rattle.cb_answer.proofs.Points.{point-of-terms}
 use Rattle.cb_answer.proofs.Shaped.{shape-is-right}
@@ -52,7 +54,10 @@ module _ (p : Program) (b : Branch) (s : Seen) (terms : List Tree) (ps : Plains)
       parameters-are c first env room (length gens) ∙ ap (λ m. parameters c m env) (sym count) in
       subst (λ zs. Gen Q [] (parameters c (length (spread_all c first gens)) env) zs) (values-spread c first env gens) (subst (λ xs. Gen Q [] xs (values_at gens at)) ys moved)
 
-pub leaves-are-right : LeavesAreRight
-leaves-are-right p names b s roots ps first gens tells are room many answer =
-    are-gen p b s (printed_terms names b) ps tells.state tells.fits tells.vals tells.constants (shape-is-right p names b s roots ps tells are) (point-of-terms p names b s roots tells ps are)
+-- the parametric form of the terms' slots is that of the leaves of the shape
+pub leaves-are-right : (p : Program) (names : Names) (b : Branch) (s : Seen) (items : List Item) (ps : Plains) (first : ℕ) (gens : List Function) (tells : Tells p names b s items) →
+    AreTermsOf s.heap.cells tells.calls items ps → p.constants ≤ first → length gens ≡ length (all_leaves ps) → IsAnswer s.store (leaf_slots ps) first gens →
+    AreGen p b (printed_terms names b) (shape_of ps) (spread_all p.constants first gens)
+leaves-are-right p names b s items ps first gens tells are room many answer =
+    are-gen p b s (printed_terms names b) ps tells.state tells.fits tells.vals tells.constants (shape-is-right p names b s items ps tells are) (point-of-terms p names b s items tells ps are)
     first gens room many answer

@@ -13,3 +13,6 @@ mod Within
 mod Found
 mod Gens
 mod Answered
+pub mod Items
+mod Called
+mod Ordered

@@ -7,7 +7,12 @@ use Rattle.cb_model.specs.declared.Tree.TheFolds.{fold-Tree}
 use Rattle.cb_model.specs.Bits.{Bits}
 use Rattle.cb_model.specs.Text.{Text, joined}
 use Rattle.cb_model.specs.Line.{Names, items_text, leaf_text, line_items, line_text, tree_text, tree_text_step}
-use Rattle.cb_answer.specs.Answering.{AreNamed}
+
+-- the same names, but for the numbers of the printed variables
+pub record AreNamed (ns ms : Names) : Type 0 where
+  pub names : ns.names ≡ ms.names
+  pub constants : ns.constants ≡ ms.constants
+  pub printed : map (λ v. v.1) ns.printed ≡ map (λ v. v.1) ms.printed
 
 -- the same names with these printed variables
 abbrev with_printed : Names → List (ℕ × Text) → Names

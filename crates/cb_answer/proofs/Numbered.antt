@@ -5,14 +5,16 @@ use Rattle.cb_model.specs.Bits.{Each}
 use Rattle.cb_model.specs.Text.{Text}
 use Rattle.cb_boole.specs.Elimination.{Function}
 use Rattle.cb_laws.proofs.OpenTrees.{Plain, Plains, ALeaf, ABus, AVar, AnInt, ANode, Nil, Cons, Place, plain_leaves, all_leaves, all_opens}
+use Rattle.cb_model.specs.Line.{Names}
 use Rattle.cb_shape.specs.declared.Printed.{Printed}
+use Rattle.cb_shape.specs.declared.Root.{Root}
+use Rattle.cb_shape.specs.declared.Root.TheVariants as root
 use Rattle.cb_shape.specs.declared.Token.{Token}
 use Rattle.cb_shape.specs.Shapes.{firsts}
-use Rattle.cb_shape.specs.Terms.{how_many}
-use Rattle.cb_shape.specs.Tokens.{tail_tokens, bus_tokens, tokens, argument_tokens, rest_tokens, terms_tokens}
-use Rattle.cb_shape.proofs.Texts.{pieces-line}
+use Rattle.cb_shape.specs.Tokens.{tail_tokens, bus_tokens, tokens, argument_tokens, rest_tokens, root_tokens, roots_tokens}
 use Rattle.cb_answer.specs.declared.Item.{Item}
-use Rattle.cb_answer.specs.Lines.{IsNumbered, AreTold, item_name, line_names, form_leaf, form_text, form_line}
+use Rattle.cb_answer.specs.Items.{item_root, roots_of}
+use Rattle.cb_answer.specs.Lines.{IsNumbered, AreTold, form_text, form_line}
 
 each-append : (P : Token → Type 0) (xs ys : List Token) → Each P xs → Each P ys → Each P (xs ++ ys)
 each-append P [] ys a b = b
@@ -55,25 +57,30 @@ module _ (k l : ℕ) (os : List Place) where
               (rest-numbered (j + length (plain_leaves p)) ps (omega (arith, h, e))),
         )
 
-  terms-numbered : (j i : ℕ) (ps : Plains) → j + length (all_leaves ps) ≤ l → i + how_many ps ≤ k → Each (IsNumbered k l) (terms_tokens os j i ps)
-  terms-numbered j i Nil h r = tt
-  terms-numbered j i (Cons p ps) h r =
+  root-numbered : (j : ℕ) (r : Root) (p : Plain) → j + length (plain_leaves p) ≤ l → Each (IsNumbered k l) (root_tokens os j r p)
+  root-numbered j (root.Term r) p h = term-numbered j p h
+  root-numbered j (root.Goal args) (ANode n ps) h = arguments-numbered j ps h
+  root-numbered j (root.Goal args) (ALeaf s) h = tt
+  root-numbered j (root.Goal args) (ABus ss t) h = tt
+  root-numbered j (root.Goal args) (AVar c) h = tt
+  root-numbered j (root.Goal args) (AnInt z) h = tt
+
+  roots-numbered : (j i : ℕ) (rs : List Root) (ps : Plains) → j + length (all_leaves ps) ≤ l → i + length rs ≤ k → Each (IsNumbered k l) (roots_tokens os j i rs ps)
+  roots-numbered j i [] ps h r = tt
+  roots-numbered j i (x ∷ rs) Nil h r = tt
+  roots-numbered j i (x ∷ rs) (Cons p ps) h r =
       let e = length-append (plain_leaves p) (all_leaves ps) in (
         omega (arith, r),
-        each-append (IsNumbered k l) (tokens os j p) (terms_tokens os (j + length (plain_leaves p)) (suc i) ps) (term-numbered j p (omega (arith, h, e)))
-            (terms-numbered (j + length (plain_leaves p)) (suc i) ps (omega (arith, h, e)) (omega (arith, r))),
+        each-append (IsNumbered k l) (root_tokens os j x p) (roots_tokens os (j + length (plain_leaves p)) (suc i) rs ps) (root-numbered j x p (omega (arith, h, e)))
+            (roots-numbered (j + length (plain_leaves p)) (suc i) rs ps (omega (arith, h, e)) (omega (arith, r))),
       )
 
-pub told-numbered : (k l : ℕ) (ps : Plains) (s : Printed) → AreTold k l ps s → Each (IsNumbered k l) s.tokens.items
-told-numbered k l ps s h =
+pub told-numbered : (items : List Item) (l : ℕ) (ps : Plains) (s : Printed) → AreTold items l ps s → Each (IsNumbered (length items) l) s.tokens.items
+told-numbered items l ps s h =
     let a = h.leaves_are in
-    let b = h.items_are in
-    subst (λ ts. Each (IsNumbered k l) ts) (sym h.shown.tokens) (terms-numbered k l (firsts [] (all_opens ps)) 0 0 ps (omega (arith, a)) (omega (arith, b)))
+    let b = length-map items item_root in
+    subst (λ ts. Each (IsNumbered (length items) l) ts) (sym h.shown.tokens) (roots-numbered (length items) l (firsts [] (all_opens ps)) 0 0 (roots_of items) ps (omega (arith, a)) (omega (arith, b)))
 
-pub told-line : (c : ℕ) (ns constants : List Text) (items : List Item) (l first : ℕ) (gens : List Function) (ps : Plains) (s : Printed) (text line : Text) → AreTold (length items) l ps s →
-    text ≡ form_text c (line_names ns constants items) first gens s.tokens.items → line ≡ text ++ 10 ∷ [] → line ≡ form_line c (line_names ns constants items) ps first gens
-told-line c ns constants items l first gens ps s text line h e f =
-    let names = line_names ns constants items in
-    let many = h.items_are in
-    let as_many = length-map items item_name in
-    f ∙ ap (λ x. x ++ 10 ∷ []) (e ∙ ap (λ ts. form_text c names first gens ts) h.shown.tokens ∙ pieces-line names (form_leaf c names first gens) ps (omega (arith, many, as_many)))
+pub told-line : (c : ℕ) (names : Names) (items : List Item) (l first : ℕ) (gens : List Function) (ps : Plains) (s : Printed) (text line : Text) → AreTold items l ps s →
+    text ≡ form_text c names items first gens s.tokens.items → line ≡ text ++ 10 ∷ [] → line ≡ form_line c names items ps first gens
+told-line c names items l first gens ps s text line h e f = f ∙ ap (λ x. x ++ 10 ∷ []) (e ∙ ap (λ ts. form_text c names items first gens ts) h.shown.tokens)

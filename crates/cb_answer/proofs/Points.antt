@@ -1,32 +1,37 @@
 -- The values of the printed terms, by the bits of the slots and the values of the unbound cells.
-use Rattle.std.proofs.Common.{◌≡◌, ℕ, zero, suc, Bool, List, [], ◌∷◌, ◌++◌, map, get_or, Option, Some, None, pos, refl, sym, ap, subst, ◌∙◌, arith}
+use Rattle.std.proofs.Common.{◌≡◌, ℕ, Bool, List, [], ◌∷◌, ◌++◌, map, get_or, Option, Some, None, pos, refl, sym, ap, subst, ◌∙◌, arith}
 use Rattle.std.specs.Prelude.{slice_get}
 use Rattle.std.proofs.lemmas.Option.{slice_get_within, slice_get-get_or}
-use Rattle.std.proofs.lemmas.List.{append-nil}
 use Rattle.cb_model.specs.declared.Sort.{Sort}
 use Rattle.cb_model.specs.declared.Sort.TheVariants as sort
 use Rattle.cb_model.specs.declared.Expr.TheVariants as expr
 use Rattle.cb_model.specs.declared.Tree.{Tree}
+use Rattle.cb_model.specs.declared.Goal.{Goal}
+use Rattle.cb_model.specs.declared.Goal.TheVariants as goal
 use Rattle.cb_model.specs.Bits.{Bits}
 use Rattle.cb_model.specs.Text.{Text}
-use Rattle.cb_model.specs.Values.{Ground, Bit, Word, Int, Name, grounds, Sorts, Fits, Valuation, tree_value}
+use Rattle.cb_model.specs.Values.{Ground, Bit, Word, Int, Name, More, grounds, Sorts, Fits, Valuation, tree_value}
 use Rattle.cb_model.specs.Answers.{values}
 use Rattle.cb_model.specs.Program.{Program}
 use Rattle.cb_model.specs.Derivation.{Branch, Waiting}
 use Rattle.cb_model.specs.Line.{Names, variable_tree, goal_tree, printed_terms}
-use Rattle.cb_laws.proofs.OpenTrees.{Plains, plain_values}
+use Rattle.cb_laws.proofs.OpenTrees.{Plains, ANode, Nil, Cons, plain_values}
 use Rattle.cb_laws.proofs.Tables.{zero_fits}
-use Rattle.cb_laws.proofs.Values.{value-var, value-leaf, value-bus, value-term}
+use Rattle.cb_laws.proofs.Values.{value-var, value-leaf, value-bus, value-term, value-node}
 use Rattle.cb_elim.specs.Store.{slot_bits, view_of}
 use Rattle.cb_heap.specs.declared.Ref.{Ref}
 use Rattle.cb_heap.specs.declared.Stored.TheVariants as cell
-use Rattle.cb_heap.specs.Reading.{Reading, CellHolds}
+use Rattle.cb_heap.specs.Reading.{Reading, CellHolds, CellsHold}
 use Rattle.cb_shape.specs.Laws.{OpensHave}
-use Rattle.cb_shape.specs.Terms.{AreRoots}
-use Rattle.cb_shape.proofs.Valued.{roots-value}
+use Rattle.cb_shape.proofs.Valued.{cells-value, term-value}
 use Rattle.cb_unify.specs.State.{Seen, FitsTable, Reads, Gives, value_of}
 use Rattle.cb_items.specs.Standing.{HasVariables}
-use Rattle.cb_answer.specs.Answering.{ArePrinted, Tells}
+use Rattle.cb_items.specs.Calls.{AreStanding, IsCalled, AreCalled}
+use Rattle.cb_answer.specs.declared.Item.{Item}
+use Rattle.cb_answer.specs.declared.Item.TheVariants as item
+use Rattle.cb_answer.specs.Items.{AreItems}
+use Rattle.cb_answer.specs.Answering.{Tells}
+use Rattle.cb_answer.proofs.Called.{AreTermsOf}
 
 -- ---- the point of a reading
 
@@ -87,34 +92,62 @@ module _ (s : Seen) (zs : List Sort) (has : HasVariables s zs) (a : Bits) (g : R
       let at : slice_get zs n ≡ Some z = slice_get-get_or zs n sort.Term (omega (arith, less, many)) in
       variable-value a v z n ∙ gives n r z e (has.sorts n r z e at)
 
-  cells-values : (vs : List (ℕ × Text)) (rs : List Ref) → ArePrinted s vs rs → map (tree_value a v) (map (λ x. variable_tree (get_or zs x.0 sort.Term) x.0) vs) ≡ map (λ r. g r.0) rs
-  cells-values [] [] h = refl
-  cells-values [] (r ∷ rs) h = absurd (let e = h.number in omega (arith, e))
-  cells-values (x ∷ vs) [] h = absurd (let e = h.number in omega (arith, e))
-  cells-values (x ∷ vs) (r ∷ rs) h =
-      let one = cell-value x.0 r.0 (h.made zero x r refl refl) in
-      let rest = cells-values vs rs (record { number = (let e = h.number in omega (arith, e)); made = λ k y q. h.made (suc k) y q }) in
-      λ i. one i ∷ rest i
+-- ---- the printed terms
 
-module _ (p : Program) (names : Names) (b : Branch) (s : Seen) (roots : List Ref) (tells : Tells p names b s roots) where
-  -- the printed terms have the values of the cells
-  pub printed-values : (a : Bits) (g : Reading) (v : Valuation) → Gives s g v → values a v (printed_terms names b) ≡ map (λ r. g r.0) roots
-  printed-values a g v gives =
-      let ts : List Tree = map (λ x. variable_tree (get_or b.sorts x.0 sort.Term) x.0) names.printed in
-      ap (λ (ws : List Waiting). map (tree_value a v) (ts ++ map (λ w. goal_tree w.goal) ws)) tells.waiting
-      ∙ ap (map (tree_value a v)) (append-nil ts)
-      ∙ cells-values s b.sorts tells.variables a g v gives names.printed roots tells.printed
+module _ (t : Sorts) (s : Seen) (zs : List Sort) (has : HasVariables s zs) (a w : Bits) (g : Reading) (v o : Valuation) (reads : Reads t s a w g) (gives : Gives s g v)
+    (bits : o.bits ≡ slot_bits (view_of s.store) a w) (opens : OpensHave s.heap.cells g o) where
+  holds : CellsHold o.bits s.heap.cells g
+  holds r c e = subst (λ (x : Bits). CellHolds x g r c) (sym bits) (reads.reading.holds r c e)
 
-  module _ (ps : Plains) (are : AreRoots s.heap.cells roots ps) where
-    -- by any values of the unbound cells
-    pub valued : (a w : Bits) (g : Reading) (v o : Valuation) → Reads p.world.arguments s a w g → Gives s g v → o.bits ≡ slot_bits (view_of s.store) a w →
-        OpensHave s.heap.cells g o → grounds (values a v (printed_terms names b)) ≡ plain_values o ps
-    valued a w g v o reads gives bits opens =
-        ap grounds (printed-values a g v gives)
-        ∙ roots-value s.heap.cells g o (λ r c e. subst (λ (x : Bits). CellHolds x g r c) (sym bits) (reads.reading.holds r c e)) opens roots ps are
+  -- the arguments of a call
+  standing-values : (rs : List Ref) (xs : List Tree) → AreStanding t s rs xs → map (tree_value a v) xs ≡ map (λ r. g r.0) rs
+  standing-values [] [] h = refl
+  standing-values (r ∷ rs) (x ∷ xs) h = let one : tree_value a v x ≡ g r.0 = sym (h.1.0 a w g v reads gives) in let rest = standing-values rs xs h.1.1 in λ i. one i ∷ rest i
+  standing-values [] (x ∷ xs) h = absurd h
+  standing-values (r ∷ rs) [] h = absurd h
 
-    -- the point of a reading
-    pub point-of-terms : (a w : Bits) (g : Reading) (v : Valuation) → Reads p.world.arguments s a w g → Gives s g v →
-        (o : Valuation) × (o.bits ≡ slot_bits (view_of s.store) a w) × (grounds (values a v (printed_terms names b)) ≡ plain_values o ps)
-    point-of-terms a w g v reads gives =
-        (point_of s a w g, refl, valued a w g v (point_of s a w g) reads gives refl (point-opens p.world.arguments s a w g reads tells.fits))
+  call-value : (x : Goal) (n : ℕ) (rs : List Ref) → IsCalled t s x n rs → tree_value a v (goal_tree x) ≡ Name n (grounds (map (λ r. g r.0) rs))
+  call-value (goal.Call pred args) n rs h =
+      value-node a v pred args ∙ ap (λ (xs : List Ground). Name pred (grounds xs)) (standing-values rs args h.1) ∙ ap (λ (m : ℕ). Name m (grounds (map (λ r. g r.0) rs))) h.0
+  call-value x n rs h = absurd h
+
+  goals-values : (made : List ℕ) (ns : List Text) (ws : List Waiting) (cs : List (ℕ × List Ref)) (xs : List Item) (ps : Plains) → AreCalled t s ws cs → AreItems made ns [] cs xs →
+      AreTermsOf s.heap.cells cs xs ps → grounds (map (tree_value a v) (map (λ x. goal_tree x.goal) ws)) ≡ plain_values o ps
+  goals-values made ns [] [] [] Nil c i h = refl
+  goals-values made ns (x ∷ ws) (c ∷ cs) (item.Waiting name args ∷ xs) (Cons (ANode n qs) ps) called i h =
+      let args-are : grounds (map (λ r. g r.0) c.1) ≡ plain_values o qs =
+      ap (λ (rs : List Ref). grounds (map (λ r. g r.0) rs)) (sym i.1) ∙ cells-value s.heap.cells g o holds opens args.now qs h.1 in
+      let one : tree_value a v (goal_tree x.goal) ≡ Name n (plain_values o qs) =
+      call-value x.goal c.0 c.1 called.0 ∙ ap (Name c.0) args-are ∙ ap (λ (m : ℕ). Name m (plain_values o qs)) (sym h.0) in
+      let rest = goals-values made ns ws cs xs ps called.1 i.2 h.2 in
+      λ j. More (one j) (rest j)
+  goals-values made ns ws [] [] (Cons p ps) c i h = absurd h
+  goals-values made ns (x ∷ ws) [] xs ps c i h = absurd c
+  goals-values made ns [] (d ∷ cs) xs ps c i h = absurd c
+  goals-values made ns ws cs (item.Waiting name args ∷ xs) Nil c i h = absurd h
+  goals-values made ns ws (d ∷ cs) (item.Waiting name args ∷ xs) (Cons p ps) c i h = absurd h
+  goals-values made ns ws cs xs ps c i h = absurd i
+
+  items-values : (ns : List Text) (vs : List (ℕ × Text)) (ws : List Waiting) (cs : List (ℕ × List Ref)) (xs : List Item) (ps : Plains) → AreCalled t s ws cs → AreItems s.made ns vs cs xs →
+      AreTermsOf s.heap.cells cs xs ps →
+      grounds (map (tree_value a v) (map (λ x. variable_tree (get_or zs x.0 sort.Term) x.0) vs ++ map (λ x. goal_tree x.goal) ws)) ≡ plain_values o ps
+  items-values ns [] ws cs xs ps c i h = goals-values s.made ns ws cs xs ps c i h
+  items-values ns (u ∷ vs) ws cs (item.Var name cell ∷ xs) (Cons p ps) c i h =
+      let one = cell-value s zs has a g v gives u.0 cell.0 i.1 ∙ term-value s.heap.cells g o holds opens cell.0 p h.0 in
+      let rest = items-values ns vs ws cs xs ps c i.2 h.1 in
+      λ j. More (one j) (rest j)
+  items-values ns (u ∷ vs) ws cs (item.Var name cell ∷ xs) Nil c i h = absurd h
+  items-values ns (u ∷ vs) ws cs xs ps c i h = absurd i
+
+module _ (p : Program) (names : Names) (b : Branch) (s : Seen) (items : List Item) (tells : Tells p names b s items) (ps : Plains) (are : AreTermsOf s.heap.cells tells.calls items ps) where
+  -- by any values of the unbound cells
+  pub valued : (a w : Bits) (g : Reading) (v o : Valuation) → Reads p.world.arguments s a w g → Gives s g v → o.bits ≡ slot_bits (view_of s.store) a w →
+      OpensHave s.heap.cells g o → grounds (values a v (printed_terms names b)) ≡ plain_values o ps
+  valued a w g v o reads gives bits opens =
+      items-values p.world.arguments s b.sorts tells.variables a w g v o reads gives bits opens names.names names.printed b.waiting tells.calls items ps tells.waiting tells.items_are are
+
+  -- the point of a reading
+  pub point-of-terms : (a w : Bits) (g : Reading) (v : Valuation) → Reads p.world.arguments s a w g → Gives s g v →
+      (o : Valuation) × (o.bits ≡ slot_bits (view_of s.store) a w) × (grounds (values a v (printed_terms names b)) ≡ plain_values o ps)
+  point-of-terms a w g v reads gives =
+      (point_of s a w g, refl, valued a w g v (point_of s a w g) reads gives refl (point-opens p.world.arguments s a w g reads tells.fits))

@@ -1,4 +1,4 @@
--- The terms of cells: their leaves' slots are there, and they are as many as the cells.
+-- The terms of cells: their leaves' slots are there.
 use Rattle.std.proofs.Common.{◌≡◌, ℕ, suc, ◌<◌, List, [], ◌∷◌, ◌++◌, length, Option, refl, ap}
 use Rattle.cb_model.specs.Bits.{Each}
 use Rattle.cb_laws.proofs.OpenTrees.{Plain, Plains, ALeaf, ABus, AVar, AnInt, ANode, Nil, Cons, plain_leaves, all_leaves}
@@ -6,7 +6,9 @@ use Rattle.cb_heap.specs.declared.Ref.{Ref}
 use Rattle.cb_heap.specs.declared.Stored.{Stored}
 use Rattle.cb_join.specs.Joins.{Rising}
 use Rattle.cb_unify.proofs.Cells.{rise-below}
-use Rattle.cb_shape.specs.Terms.{IsLeaf, IsBus, IsTerm, AreTerms, AreRoots, how_many}
+use Rattle.cb_shape.specs.declared.Root.{Root}
+use Rattle.cb_shape.specs.declared.Root.TheVariants as root
+use Rattle.cb_shape.specs.Terms.{IsLeaf, IsBus, IsTerm, AreCells, AreTerms, IsRoot, AreRoots}
 use Rattle.cb_answer.specs.Writing.{slots_of}
 
 each-append : (P : ℕ → Type 0) (xs ys : List ℕ) → Each P xs → Each P ys → Each P (xs ++ ys)
@@ -33,21 +35,25 @@ module _ (cs : List Stored) (n : ℕ) (rise : Rising n 0 cs) where
     terms-below r Nil h = tt
     terms-below r (Cons p ps) h = each-append (λ x. x < n) (plain_leaves p) (all_leaves ps) (term-below r p h.0) (terms-below (suc r) ps h.1)
 
+  cells-below : (rs : List Ref) (ps : Plains) → AreCells cs rs ps → Each (λ x. x < n) (all_leaves ps)
+  cells-below [] Nil h = tt
+  cells-below (r ∷ rs) (Cons p ps) h = each-append (λ x. x < n) (plain_leaves p) (all_leaves ps) (term-below r.0 p h.0) (cells-below rs ps h.1)
+  cells-below [] (Cons p ps) h = absurd h
+  cells-below (r ∷ rs) Nil h = absurd h
+
+  root-below : (r : Root) (p : Plain) → IsRoot cs r p → Each (λ x. x < n) (plain_leaves p)
+  root-below (root.Term r) p h = term-below r.0 p h
+  root-below (root.Goal args) (ANode m ps) h = cells-below args.now ps h
+  root-below (root.Goal args) p h = absurd h
+
   -- the slots of the leaves are there
-  pub roots-below : (roots : List Ref) (ps : Plains) → AreRoots cs roots ps → Each (λ x. x < n) (all_leaves ps)
+  pub roots-below : (roots : List Root) (ps : Plains) → AreRoots cs roots ps → Each (λ x. x < n) (all_leaves ps)
   roots-below [] Nil h = tt
-  roots-below [] (Cons p ps) h = elim h [ ]
-  roots-below (r ∷ roots) Nil h = elim h [ ]
-  roots-below (r ∷ roots) (Cons p ps) h = each-append (λ x. x < n) (plain_leaves p) (all_leaves ps) (term-below r.0 p h.0) (roots-below roots ps h.1)
+  roots-below (r ∷ roots) (Cons p ps) h = each-append (λ x. x < n) (plain_leaves p) (all_leaves ps) (root-below r p h.0) (roots-below roots ps h.1)
+  roots-below [] (Cons p ps) h = absurd h
+  roots-below (r ∷ roots) Nil h = absurd h
 
 -- slots by their numbers
 pub slots-below : (n : ℕ) (xs : List ℕ) → Each (λ x. x < n) xs → Each (λ l. l.0 < n) (slots_of xs)
 slots-below n [] h = tt
 slots-below n (x ∷ xs) h = (h.0, slots-below n xs h.1)
-
--- there are as many terms as cells
-pub roots-count : (cs : List Stored) (roots : List Ref) (ps : Plains) → AreRoots cs roots ps → how_many ps ≡ length roots
-roots-count cs [] Nil h = refl
-roots-count cs [] (Cons p ps) h = elim h [ ]
-roots-count cs (r ∷ roots) Nil h = elim h [ ]
-roots-count cs (r ∷ roots) (Cons p ps) h = ap suc (roots-count cs roots ps h.1)

@@ -12,21 +12,13 @@ use Rattle.cb_show.specs.Levels.{spread}
 use Rattle.cb_laws.proofs.OpenTrees.{Plains, all_leaves}
 use Rattle.cb_shape.specs.declared.Printed.{Printed}
 use Rattle.cb_shape.specs.Shapes.{shape_of}
-use Rattle.cb_shape.specs.Terms.{how_many}
-use Rattle.cb_shape.specs.Tokens.{IsShown}
+use Rattle.cb_shape.specs.Tokens.{IsShown, told_tokens}
 use Rattle.cb_shape.specs.declared.Token.{Token}
 use Rattle.cb_shape.specs.declared.Token.TheVariants as token
-use Rattle.cb_shape.specs.Text.{line_start, token_text, tokens_text}
+use Rattle.cb_shape.specs.Text.{AreOfLine, token_text, tokens_text}
 use Rattle.cb_answer.specs.declared.Item.{Item}
-use Rattle.cb_answer.specs.declared.Item.TheVariants as item
 use Rattle.cb_answer.specs.declared.pieces.Told.{Told}
-
--- the printed variables; their numbers are not printed
-abbrev pub item_name : Item → ℕ × Text
-item_name (item.Var name cell) = (0, name.now)
-
-abbrev pub printed_of : List Item → List (ℕ × Text)
-printed_of items = map item_name items
+use Rattle.cb_answer.specs.Items.{begins, item_starts, printed_of, roots_of, waiting_of}
 
 -- the names that a line reads
 abbrev pub line_names : List Text → List Text → List Item → Names
@@ -41,8 +33,8 @@ abbrev pub form_leaf : ℕ → Names → ℕ → List Function → ℕ → Text
 form_leaf c names first gens = leaf_text c names (spread_all c first gens)
 
 -- the text of an answer's pieces
-abbrev pub form_text : ℕ → Names → ℕ → List Function → List Token → Text
-form_text c names first gens ts = line_start names.printed ++ tokens_text names (form_leaf c names first gens) ts
+abbrev pub form_text : ℕ → Names → List Item → ℕ → List Function → List Token → Text
+form_text c names items first gens ts = begins items ++ tokens_text names (item_starts items) (form_leaf c names first gens) ts
 
 -- the piece has a number that is there: of so many terms and leaves
 abbrev pub IsNumbered : ℕ → ℕ → Token → Type 0
@@ -56,15 +48,18 @@ pub record IsForm (ts : List Triple) (c first : ℕ) (ns : List Node) : Type 0 w
   pub order : c ≤ first
   pub own : AreOwn c first 0 (functions_of ts ns)
 
--- these are the terms of so many items and leaves
-pub record AreTold (items leaves : ℕ) (ps : Plains) (s : Printed) : Type 0 where
-  pub shown : IsShown ps s
-  pub items_are : how_many ps ≡ items
+-- what was told is of these items and terms, with so many leaves
+pub record AreTold (items : List Item) (leaves : ℕ) (ps : Plains) (s : Printed) : Type 0 where
+  pub shown : IsShown (roots_of items) ps s
   pub leaves_are : length (all_leaves ps) ≡ leaves
 
--- the line of the shape of terms, with a parametric form for its leaves
-abbrev pub form_line : ℕ → Names → Plains → ℕ → List Function → Text
-form_line c names ps first gens = lines_text (line_text c names (shape_of ps) (spread_all c first gens) ∷ [])
+-- the line of the pieces of terms, with a parametric form for their leaves
+abbrev pub form_line : ℕ → Names → List Item → Plains → ℕ → List Function → Text
+form_line c names items ps first gens = lines_text (form_text c names items first gens (told_tokens (roots_of items) ps) ∷ [])
+
+-- the line of their shape
+abbrev pub shape_line : ℕ → Names → Plains → ℕ → List Function → Text
+shape_line c names ps first gens = lines_text (line_text c names (shape_of ps) (spread_all c first gens) ∷ [])
 
 -- ---- what a line is told from, with what its names say by number
 
@@ -82,7 +77,11 @@ HasForm t = IsForm t.ops.now.triples t.constants t.form.now.first t.form.now.nod
 
 -- it has the items and the leaves of these terms
 abbrev pub TellsOf : {N : Type 0} → Told N → Plains → Printed → Type 0
-TellsOf t ps printed = AreTold (length t.items.now) (length t.form.now.nodes) ps printed
+TellsOf t ps printed = AreTold t.items.now (length t.form.now.nodes) ps printed
+
+-- the variables stand before the goals, and the goals' names are those of their numbers
+abbrev pub IsNamed : {N : Type 0} → (N → List Text) → Told N → Plains → Type 0
+IsNamed names t ps = AreOfLine (names t.names.now) (printed_of t.items.now) (waiting_of t.items.now) (roots_of t.items.now) ps
 
 -- it has the items and the leaves of the piece
 abbrev pub HasToken : {N : Type 0} → Told N → Token → Type 0
@@ -93,11 +92,14 @@ abbrev pub told_leaf : {N : Type 0} → (N → List Text) → (N → List Text) 
 told_leaf names constants t = form_leaf t.constants (told_names names constants t) t.form.now.first (told_gens t)
 
 abbrev pub told_token : {N : Type 0} → (N → List Text) → (N → List Text) → Told N → Token → Text
-told_token names constants t = token_text (told_names names constants t) (told_leaf names constants t)
+told_token names constants t = token_text (told_names names constants t) (item_starts t.items.now) (told_leaf names constants t)
 
 abbrev pub told_text : {N : Type 0} → (N → List Text) → (N → List Text) → Told N → List Token → Text
-told_text names constants t = form_text t.constants (told_names names constants t) t.form.now.first (told_gens t)
+told_text names constants t = form_text t.constants (told_names names constants t) t.items.now t.form.now.first (told_gens t)
 
--- the line of terms
+-- the line of the pieces of terms, and of their shape
+abbrev pub told_pieces : {N : Type 0} → (N → List Text) → (N → List Text) → Told N → Plains → Text
+told_pieces names constants t ps = form_line t.constants (told_names names constants t) t.items.now ps t.form.now.first (told_gens t)
+
 abbrev pub told_line : {N : Type 0} → (N → List Text) → (N → List Text) → Told N → Plains → Text
-told_line names constants t ps = form_line t.constants (told_names names constants t) ps t.form.now.first (told_gens t)
+told_line names constants t ps = shape_line t.constants (told_names names constants t) ps t.form.now.first (told_gens t)

@@ -1,12 +1,10 @@
 //! The line of an answer.
 #![tactic(auto)]
 
-mod laws;
 mod pieces;
 mod telling;
 
 use cb_heap::Ref;
-pub use laws::shape_is_right;
 pub use pieces::{Told, line};
 pub use telling::answer;
 
@@ -15,4 +13,6 @@ pub use telling::answer;
 pub enum Item<'a> {
     /// A printed variable: its name, and the cell of its value.
     Var(&'a [u8], Ref),
+    /// A goal that waits: the name of its predicate, and the cells of its arguments.
+    Waiting(&'a [u8], &'a [Ref]),
 }

@@ -1,12 +1,12 @@
 //! The text of an answer from the pieces of its terms.
 
-ghost use Rattle.std.specs.Prelude.{◌≡◌, ◌<◌, ◌∷◌, ◌++◌, [], length, get_or, codes, IfOk, OnOk};
+ghost use Rattle.std.specs.Prelude.{◌≡◌, ◌<◌, ◌++◌, [], length, get_or, IfOk, OnOk};
 ghost use Rattle.std.specs.Fmt.{signed_decimal};
 ghost use Rattle.cb_model.specs.Bits.{Each};
 ghost use Rattle.cb_model.specs.Line.{open_text};
 ghost use Rattle.cb_laws.proofs.OpenTrees.{Plains};
-ghost use Rattle.cb_shape.specs.Text.{line_start, term_start};
-ghost use Rattle.cb_answer.specs.Lines.{HasForm, HasToken, TellsOf, item_name, printed_of, told_leaf, told_line, told_text, told_token};
+ghost use Rattle.cb_answer.specs.Items.{begins, item_start, item_starts, leads};
+ghost use Rattle.cb_answer.specs.Lines.{HasForm, HasToken, IsNamed, TellsOf, told_leaf, told_line, told_pieces, told_text, told_token};
 
 use crate::Item;
 use cb_ops::Ops;
@@ -49,23 +49,37 @@ fn push_open(line: &mut Vec<u8>, number: usize) -> Result<(), AllocError>
     Ok(())
 }
 
-// Appends the name of an item and ` = `.
+// Appends the name of a printed variable and ` = `, or that the goal of a name waits.
 fn push_item(line: &mut Vec<u8>, item: Item<'_>) -> Result<(), AllocError>
-    ensures { OnOk result (line.new.items ≡ line.old.items ++ (item_name item.entry).1 ++ codes " = ") }
+    ensures { OnOk result (line.new.items ≡ line.old.items ++ item_start item.entry) }
 {
-    let Item::Var(name, _) = item;
-    line.extend_from_slice(name)?;
-    line.extend_from_slice(b" = ")?;
-    Ok(())
+    match item {
+        Item::Var(name, _) => {
+            line.extend_from_slice(name)?;
+            line.extend_from_slice(b" = ")?;
+            Ok(())
+        }
+        Item::Waiting(name, _) => {
+            line.extend_from_slice(b"waiting ")?;
+            push_name(line, name)
+        }
+    }
+}
+
+// Whether a variable leads the items.
+fn variable_leads(items: &[Item<'_>]) -> bool
+    ensures { result ≡ leads items.now }
+{
+    matches!(items.first(), Some(Item::Var(_, _)))
 }
 
 // Appends what stands before the term of this number.
 fn push_start(line: &mut Vec<u8>, items: &[Item<'_>], place: usize) -> Result<(), AllocError>
     requires { place < length items.now }
-    ensures { OnOk result (line.new.items ≡ line.old.items ++ term_start (printed_of items.now) place) }
+    ensures { OnOk result (line.new.items ≡ line.old.items ++ get_or (item_starts items.now) place []) }
 {
-    if place == 0 {
-        return push_item(line, items[0]);
+    if place == 0 && variable_leads(items) {
+        return push_item(line, items[place]);
     }
     line.extend_from_slice(b", ")?;
     push_item(line, items[place])
@@ -121,14 +135,14 @@ fn push_token<N: Names>(
     Ok(())
 }
 
-// What stands before the first term: `yes` where there is none.
+// What stands before the first item: `yes` where no variable leads.
 fn begun(alloc: Global, items: &[Item<'_>]) -> Result<Vec<u8>, AllocError>
-    ensures { IfOk result (λ t. t.items ≡ line_start (printed_of items.now)) }
+    ensures { IfOk result (λ t. t.items ≡ begins items.now) }
 {
-    if items.is_empty() {
-        return Vec::from_slice(alloc, b"yes");
+    if variable_leads(items) {
+        return Ok(Vec::new(alloc));
     }
-    Ok(Vec::new(alloc))
+    Vec::from_slice(alloc, b"yes")
 }
 
 // The text of an answer's pieces, without the byte at the end of the line.
@@ -156,7 +170,10 @@ pub fn line<N: Names>(
 ) -> Result<Vec<u8>, AllocError>
     requires form { HasForm told.now }
     requires terms { (ps : Plains) × TellsOf told.now ps printed.now }
-    ensures { IfOk result (λ t. (ps : Plains) → TellsOf told.now ps printed.now →
+    ensures pieces { IfOk result (λ t. (ps : Plains) → TellsOf told.now ps printed.now →
+        t.items ≡ told_pieces N.names N.constants told.now ps) }
+    // Where the goals' names are those of their numbers, it is the line of the definition.
+    ensures line { IfOk result (λ t. (ps : Plains) → TellsOf told.now ps printed.now → IsNamed N.names told.now ps →
         t.items ≡ told_line N.names N.constants told.now ps) }
 {
     let mut text = text_of(alloc, told, &printed.tokens)?;

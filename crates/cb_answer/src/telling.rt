@@ -6,21 +6,21 @@ ghost use Rattle.cb_model.specs.Text.{lines_text};
 ghost use Rattle.cb_unify.specs.Moments.{KeepsMoments};
 ghost use Rattle.cb_unify.specs.State.{IsAsBefore, IsState};
 ghost use Rattle.cb_answer.specs.Answered.{IsLineFor};
-ghost use Rattle.cb_answer.specs.Writing.{IsShownFor, IsTellable, IsText, IsToldFor, WantsNodes, WroteFront, WroteLine, item_cell, roots_of, slots_of};
+ghost use Rattle.cb_answer.specs.Items.{item_root, roots_of};
+ghost use Rattle.cb_answer.specs.Writing.{IsShownFor, IsTellable, IsText, IsToldFor, WantsNodes, WroteFront, WroteLine, slots_of};
 
 use crate::{Item, Told, line};
 use cb_dd::Stop;
 use cb_elim::Slot;
-use cb_heap::Ref;
 use cb_host::{Failed, Sink, write_all};
 use cb_project::general;
-use cb_shape::{Printed, shape};
+use cb_shape::{Printed, Root, shape};
 use cb_show::{Names, ShowError};
 use cb_unify::State;
 use std::alloc::{AllocError, Global};
 
-/// Writes the line of an answer: each item with its value, the leaves in their parametric form over the state's constants
-/// (Boole 1854), or `(wide)` past the limits of a line. All nodes and all memory are taken before the first byte is
+/// Writes the line of an answer: each printed variable with its value, and behind them the goals that wait, the leaves in
+/// their parametric form over the state's constants (Boole 1854); or `(wide)` past the limits of a line. All nodes and all memory are taken before the first byte is
 /// written, and in every case the state is as before, but for its count of refusals for nodes.
 ///
 /// After `Stop` nothing was written; `Stop(Nodes)` comes where the budget is too small for the parametric form. After
@@ -91,19 +91,21 @@ fn wide(alloc: Global) -> Result<Vec<u8>, Stop>
     }
 }
 
-// The cell of an item.
-fn cell_of(item: Item<'_>) -> Ref
-    ensures { result ≡ item_cell item.entry }
+// What is shown of an item beside its name.
+fn root_of<'a>(item: Item<'a>) -> Root<'a>
+    ensures { result ≡ item_root item.entry }
 {
-    let Item::Var(_, cell) = item;
-    cell
+    match item {
+        Item::Var(_, cell) => Root::Term(cell),
+        Item::Waiting(_, args) => Root::Goal(args),
+    }
 }
 
-// The cells of the items.
-fn roots(alloc: Global, items: &[Item<'_>]) -> Result<Vec<Ref>, AllocError>
+// What is shown of the items.
+fn roots<'a>(alloc: Global, items: &[Item<'a>]) -> Result<Vec<Root<'a>>, AllocError>
     ensures { IfOk result (λ r. r.items ≡ roots_of items.now) }
 {
-    items.iter().map(|item| cell_of(*item)).collect(alloc)
+    items.iter().map(|item| root_of(*item)).collect(alloc)
 }
 
 // These slots by their numbers.

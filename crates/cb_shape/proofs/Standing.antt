@@ -13,7 +13,9 @@ use Rattle.cb_heap.specs.declared.Stored.TheVariants as cell
 use Rattle.cb_heap.specs.Finite.{IsFinite, ends, IsSorted, HaveSorts, AllFinite}
 use Rattle.cb_heap.specs.Links.{arrives, goes, link_of}
 use Rattle.cb_heap.proofs.Steps.{some-inj}
-use Rattle.cb_shape.specs.Terms.{EndsAt, IsLeaf, IsBus, IsTerm, AreTerms, AreRoots, how_many}
+use Rattle.cb_shape.specs.declared.Root.{Root}
+use Rattle.cb_shape.specs.declared.Root.TheVariants as root
+use Rattle.cb_shape.specs.Terms.{EndsAt, IsLeaf, IsBus, IsTerm, AreCells, AreTerms, IsRoot, AreRoots, IsRootThere, how_many}
 
 -- what a cell of a sort is
 abbrev TermOf : List Stored → ℕ → Sort → Type 0
@@ -103,9 +105,20 @@ module _ (t : Sorts) (ss : List Sort) (cs : List Stored) (sorted : IsSorted t ss
       let at : slice_get ss r ≡ Some z = slice_get-get_or ss r sort.Bool (omega (arith, lt, n)) in
       term-of cs r z (standing r (finite r) (get_or cs r cell.BusNil) (cell-at r z at) z at)
 
-  pub roots-stand : AllFinite cs → (rs : List Ref) → Each (λ r. r.0 < length cs) rs → (ps : Plains) × AreRoots cs rs ps
+  pub cells-stand : AllFinite cs → (rs : List Ref) → Each (λ r. r.0 < length cs) rs → (ps : Plains) × AreCells cs rs ps
+  cells-stand finite [] h = (Nil, tt)
+  cells-stand finite (r ∷ rs) h =
+      let p = one finite r.0 h.0 in
+      let ps = cells-stand finite rs h.1 in
+      (Cons p.0 ps.0, (p.1, ps.1))
+
+  root-stands : AllFinite cs → (r : Root) → IsRootThere (length cs) r → (p : Plain) × IsRoot cs r p
+  root-stands finite (root.Term r) h = one finite r.0 h
+  root-stands finite (root.Goal args) h = let ps = cells-stand finite args.now h in (ANode 0 ps.0, ps.1)
+
+  pub roots-stand : AllFinite cs → (rs : List Root) → Each (IsRootThere (length cs)) rs → (ps : Plains) × AreRoots cs rs ps
   roots-stand finite [] h = (Nil, tt)
   roots-stand finite (r ∷ rs) h =
-      let p = one finite r.0 h.0 in
+      let p = root-stands finite r h.0 in
       let ps = roots-stand finite rs h.1 in
       (Cons p.0 ps.0, (p.1, ps.1))

@@ -6,6 +6,7 @@ use Rattle.indexmap.specs.IndexSet.{insert_key}
 use Rattle.cb_laws.proofs.OpenTrees.{Plain, Plains, ANode, Nil, Cons, Place, bus_places, plain_leaves, all_leaves, plain_opens, all_opens}
 use Rattle.cb_heap.specs.declared.Ref.{Ref}
 use Rattle.cb_heap.specs.declared.Stored.{Stored}
+use Rattle.cb_shape.specs.declared.Root.{Root}
 use Rattle.cb_shape.specs.declared.Token.{Token}
 use Rattle.cb_shape.specs.declared.Token.TheVariants as token
 use Rattle.cb_shape.specs.declared.walk.Pending.{Pending}
@@ -48,13 +49,13 @@ pub turned-append : (xs ys : List Work) → turned (xs ++ ys) ≡ turned ys ++ t
 turned-append [] ys = sym (append-nil (turned ys))
 turned-append (x ∷ xs) ys = ap (λ q. q ++ x ∷ []) (turned-append xs ys) ∙ append_assoc (turned ys) (turned xs) (x ∷ [])
 
-pub works-append : (cs : List Stored) (roots : List Ref) (xs ys : List Pending) (ws vs : List Work) → AreWorks cs roots xs ws → AreWorks cs roots ys vs → AreWorks cs roots (xs ++ ys) (ws ++ vs)
+pub works-append : (cs : List Stored) (roots : List Root) (xs ys : List Pending) (ws vs : List Work) → AreWorks cs roots xs ws → AreWorks cs roots ys vs → AreWorks cs roots (xs ++ ys) (ws ++ vs)
 works-append cs roots [] ys [] vs a b = b
 works-append cs roots [] ys (w ∷ ws) vs a b = absurd a
 works-append cs roots (x ∷ xs) ys [] vs a b = absurd a
 works-append cs roots (x ∷ xs) ys (w ∷ ws) vs a b = (a.0, works-append cs roots xs ys ws vs a.1 b)
 
-module _ (cs : List Stored) (roots : List Ref) where
+module _ (cs : List Stored) (roots : List Root) where
   -- ---- one token or two, and nothing is left
 
   pub plain-writes : (w : Work) (old new : Walk) (before : List Pending) (ts : List Token) (ss : List ℕ) (d : ℕ) → Adds old new ts ss old.opens.keys d →

@@ -1,5 +1,6 @@
 -- The pieces of terms, one after another, are their text.
-use Rattle.std.proofs.Common.{◌≡◌, ℕ, zero, suc, ◌+◌, ◌≤◌, List, [], ◌∷◌, ◌++◌, map, length, get_or, codes, Option, Some, None, refl, sym, ap, ◌∙◌, arith, append_assoc}
+use Rattle.std.proofs.Common.{◌≡◌, ℕ, zero, suc, ◌+◌, List, [], ◌∷◌, ◌++◌, map, length, get_or, codes, Option, Some, None, refl, sym, ap, ◌∙◌, arith, append_assoc}
+use Rattle.std.specs.Borrow.{Bor}
 use Rattle.std.specs.Prelude.{option_map}
 use Rattle.std.specs.Fmt.{signed_decimal}
 use Rattle.std.proofs.lemmas.List.{append-nil}
@@ -14,12 +15,14 @@ use Rattle.cb_model.specs.Answers.{leaf_number}
 use Rattle.cb_model.specs.Text.{Text, joined, name_text}
 use Rattle.cb_model.specs.Line.{Names, open_text, bus_text, node_text, tree_text, tree_text_step, items_text, line_items}
 use Rattle.cb_laws.proofs.Shapes.{number-var, text-leaf, text-bus, text-term, text-node}
-use Rattle.cb_laws.proofs.OpenTrees.{Plain, Plains, ALeaf, ABus, AVar, AnInt, ANode, Nil, Cons, Place, closed, closed_all, plain_leaves, all_opens}
+use Rattle.cb_laws.proofs.OpenTrees.{Plain, Plains, ALeaf, ABus, AVar, AnInt, ANode, Nil, Cons, Place, closed, closed_all, plain_leaves, all_leaves, all_opens}
+use Rattle.cb_heap.specs.declared.Ref.{Ref}
+use Rattle.cb_shape.specs.declared.Root.{Root}
+use Rattle.cb_shape.specs.declared.Root.TheVariants as root
 use Rattle.cb_shape.specs.declared.Token.{Token}
 use Rattle.cb_shape.specs.Shapes.{place_from, firsts, numbered, numbered_all, shape_of}
-use Rattle.cb_shape.specs.Terms.{how_many}
-use Rattle.cb_shape.specs.Tokens.{tail_tokens, bus_tokens, tokens, argument_tokens, rest_tokens, terms_tokens, told_tokens}
-use Rattle.cb_shape.specs.Text.{item_start, term_start, token_text, tokens_text, line_start}
+use Rattle.cb_shape.specs.Tokens.{tail_tokens, bus_tokens, tokens, argument_tokens, rest_tokens, root_tokens, roots_tokens}
+use Rattle.cb_shape.specs.Text.{AreOfLine, PiecesAreTheLine, line_start, starts, term_starts, token_text, tokens_text}
 
 -- the pieces that follow others, each behind the separator
 abbrev behind : List Text → Text
@@ -37,7 +40,15 @@ joined-behind x (y ∷ ys) =
     ap (λ u. x ++ codes ", " ++ u) (joined-behind y ys)
     ∙ append_assoc x (codes ", ") (y ++ behind ys) ∙ sym (ap (λ u. x ++ u) (append_assoc (codes ", ") y (behind ys)))
 
-module _ (names : Names) (leaf : ℕ → Text) (os : List Place) where
+-- what stands before the first of the terms that are left, and before the next ones
+at-first : (before : List Text) (i : ℕ) (xs : List Text) → ((k : ℕ) → get_or before (i + k) [] ≡ get_or (map (λ t. codes ", " ++ t) xs) k []) → get_or before i [] ≡ get_or (map (λ t. codes ", " ++ t) xs) 0 []
+at-first before i xs h = ap (λ m. get_or before m []) (let e : i ≡ i + 0 = omega arith in e) ∙ h 0
+
+at-next : (before : List Text) (i : ℕ) (x : Text) (xs : List Text) → ((k : ℕ) → get_or before (i + k) [] ≡ get_or (map (λ t. codes ", " ++ t) (x ∷ xs)) k []) →
+    (k : ℕ) → get_or before (suc i + k) [] ≡ get_or (map (λ t. codes ", " ++ t) xs) k []
+at-next before i x xs h k = ap (λ m. get_or before m []) (let e : suc i + k ≡ i + suc k = omega arith in e) ∙ h (suc k)
+
+module _ (names : Names) (before : List Text) (leaf : ℕ → Text) (os : List Place) where
   -- ---- buses
 
   leaf-texts : (j n : ℕ) → map (λ e. leaf (leaf_number e)) (map expr.Var (numbers_from j n)) ≡ map leaf (numbers_from j n)
@@ -49,7 +60,7 @@ module _ (names : Names) (leaf : ℕ → Text) (os : List Place) where
   end-text None = codes "]"
   end-text (Some c) = codes "|" ++ open_text (place_from 0 os (sort.Bus, c)) ++ codes "]"
 
-  tail-text : (j : ℕ) (ss : List ℕ) (t : Option ℕ) → tokens_text names leaf (tail_tokens os j ss t) ≡ behind (map leaf (numbers_from j (length ss))) ++ end-text t
+  tail-text : (j : ℕ) (ss : List ℕ) (t : Option ℕ) → tokens_text names before leaf (tail_tokens os j ss t) ≡ behind (map leaf (numbers_from j (length ss))) ++ end-text t
   tail-text j [] None = refl
   tail-text j [] (Some c) = sym (append_assoc (codes "|") (open_text (place_from 0 os (sort.Bus, c))) (codes "]"))
   tail-text j (s ∷ ss) t =
@@ -60,7 +71,7 @@ module _ (names : Names) (leaf : ℕ → Text) (os : List Place) where
       ∙ ap (λ u. u ++ end-text t) (sym (append_assoc (codes ", ") (leaf j) rest))
 
   bus-told : (j : ℕ) (ss : List ℕ) (t : Option ℕ) →
-      tokens_text names leaf (bus_tokens os j ss t) ≡ bus_text (map leaf (numbers_from j (length ss))) (option_map (λ c. place_from 0 os (sort.Bus, c)) t)
+      tokens_text names before leaf (bus_tokens os j ss t) ≡ bus_text (map leaf (numbers_from j (length ss))) (option_map (λ c. place_from 0 os (sort.Bus, c)) t)
   bus-told j [] None = refl
   bus-told j [] (Some c) = append-nil (open_text (place_from 0 os (sort.Bus, c)))
   bus-told j (s ∷ ss) None =
@@ -86,8 +97,8 @@ module _ (names : Names) (leaf : ℕ → Text) (os : List Place) where
   abbrev texts : ℕ → Plains → List Text
   texts j ps = map (tree_text names leaf) (closed_all (numbered_all os j ps))
 
-  parts-told : (xs ys : List Token) (x y : Text) → tokens_text names leaf xs ≡ x → tokens_text names leaf ys ≡ y → tokens_text names leaf (xs ++ ys) ≡ x ++ y
-  parts-told xs ys x y e f = flat_map-append (token_text names leaf) xs ys ∙ ap (λ u. u ++ tokens_text names leaf ys) e ∙ ap (λ u. x ++ u) f
+  parts-told : (xs ys : List Token) (x y : Text) → tokens_text names before leaf xs ≡ x → tokens_text names before leaf ys ≡ y → tokens_text names before leaf (xs ++ ys) ≡ x ++ y
+  parts-told xs ys x y e f = flat_map-append (token_text names before leaf) xs ys ∙ ap (λ u. u ++ tokens_text names before leaf ys) e ∙ ap (λ u. x ++ u) f
 
   node-told : (n : ℕ) (xs : List Text) (u : Text) → u ≡ node-tail xs → name_text (get_or names.names n []) ++ u ≡ node_text (get_or names.names n []) xs
   node-told n [] u e = ap (λ v. name_text (get_or names.names n []) ++ v) e ∙ append-nil (name_text (get_or names.names n []))
@@ -98,7 +109,7 @@ module _ (names : Names) (leaf : ℕ → Text) (os : List Place) where
       ∙ sym (append_assoc (m ++ codes "(") (joined (codes ", ") (x ∷ xs)) (codes ")"))
 
   mutual
-    pub term-told : (j : ℕ) (p : Plain) → tokens_text names leaf (tokens os j p) ≡ text j p
+    pub term-told : (j : ℕ) (p : Plain) → tokens_text names before leaf (tokens os j p) ≡ text j p
     term-told j (ALeaf s) = append-nil (leaf j) ∙ sym (text-leaf names leaf (expr.Var j) ∙ ap leaf (number-var j))
     term-told j (ABus ss t) =
         bus-told j ss t
@@ -108,17 +119,17 @@ module _ (names : Names) (leaf : ℕ → Text) (os : List Place) where
     term-told j (AnInt z) =
         append-nil (signed_decimal z) ∙ sym (ap (tree_text names leaf) (sym (tree.rolls-Int z)) ∙ fold-roll-Tree Text (tree_text_step names leaf) (Tree-F.Int z))
     term-told j (ANode n ps) =
-        node-told n (texts j ps) (tokens_text names leaf (argument_tokens os j ps)) (arguments-told j ps)
+        node-told n (texts j ps) (tokens_text names before leaf (argument_tokens os j ps)) (arguments-told j ps)
         ∙ sym (text-node names leaf n (closed_all (numbered_all os j ps)))
 
-    arguments-told : (j : ℕ) (ps : Plains) → tokens_text names leaf (argument_tokens os j ps) ≡ node-tail (texts j ps)
+    arguments-told : (j : ℕ) (ps : Plains) → tokens_text names before leaf (argument_tokens os j ps) ≡ node-tail (texts j ps)
     arguments-told j Nil = refl
     arguments-told j (Cons p ps) =
         let k = j + length (plain_leaves p) in
         ap (λ u. codes "(" ++ u) (parts-told (tokens os j p) (rest_tokens os k ps) (text j p) (behind (texts k ps) ++ codes ")") (term-told j p) (rest-told k ps)
         ∙ sym (append_assoc (text j p) (behind (texts k ps)) (codes ")")) ∙ ap (λ u. u ++ codes ")") (sym (joined-behind (text j p) (texts k ps))))
 
-    rest-told : (j : ℕ) (ps : Plains) → tokens_text names leaf (rest_tokens os j ps) ≡ behind (texts j ps) ++ codes ")"
+    rest-told : (j : ℕ) (ps : Plains) → tokens_text names before leaf (rest_tokens os j ps) ≡ behind (texts j ps) ++ codes ")"
     rest-told j Nil = refl
     rest-told j (Cons p ps) =
         let k = j + length (plain_leaves p) in
@@ -129,54 +140,65 @@ module _ (names : Names) (leaf : ℕ → Text) (os : List Place) where
 
   -- ---- the items of a line
 
-  -- one item more
-  item-told : (j i : ℕ) (p : Plain) (ps : Plains) (s : Text) (xs : List Text) → term_start names.printed i ≡ codes ", " ++ s →
-      tokens_text names leaf (terms_tokens os (j + length (plain_leaves p)) (suc i) ps) ≡ behind xs →
-      tokens_text names leaf (terms_tokens os j i (Cons p ps)) ≡ behind ((s ++ text j p) ∷ xs)
-  item-told j i p ps s xs e f =
-      let k = j + length (plain_leaves p) in
-      ap (λ u. term_start names.printed i ++ u) (parts-told (tokens os j p) (terms_tokens os k (suc i) ps) (text j p) (behind xs) (term-told j p) f)
-      ∙ ap (λ u. u ++ (text j p ++ behind xs)) e
-      ∙ append_assoc (codes ", ") s (text j p ++ behind xs)
-      ∙ ap (λ u. codes ", " ++ u) (sym (append_assoc s (text j p) (behind xs)))
-      ∙ sym (append_assoc (codes ", ") (s ++ text j p) (behind xs))
+  -- the text of an item, from what stands before its term
+  abbrev ItemTold : ℕ → Text → Root → Plain → Text → Type 0
+  ItemTold j s r p x = s ++ tokens_text names before leaf (root_tokens os j r p) ≡ x
 
-  -- the items from the i-th on, for the variables that are left
-  items-told : (us : List (ℕ × Text)) (j i : ℕ) (ps : Plains) → ((k : ℕ) → term_start names.printed (i + k) ≡ codes ", " ++ item_start us k) →
-      tokens_text names leaf (terms_tokens os j i ps) ≡ behind (items_text us (texts j ps))
-  items-told [] j i Nil h = refl
-  items-told (u ∷ us) j i Nil h = refl
-  items-told [] j i (Cons p ps) h =
-      item-told j i p ps (codes "waiting ") (items_text [] (texts (j + length (plain_leaves p)) ps)) (ap (term_start names.printed) (let e : i ≡ i + 0 = omega arith in e) ∙ h 0)
-      (items-told [] (j + length (plain_leaves p)) (suc i) ps (λ k. ap (term_start names.printed) (let e : suc i + k ≡ i + suc k = omega arith in e) ∙ h (suc k)))
-  items-told (u ∷ us) j i (Cons p ps) h =
-      item-told j i p ps (u.1 ++ codes " = ") (items_text us (texts (j + length (plain_leaves p)) ps)) (ap (term_start names.printed) (let e : i ≡ i + 0 = omega arith in e) ∙ h 0)
-      (items-told us (j + length (plain_leaves p)) (suc i) ps (λ k. ap (term_start names.printed) (let e : suc i + k ≡ i + suc k = omega arith in e) ∙ h (suc k)))
+  goal-item : (j : ℕ) (w : Text) (args : Bor (List Ref)) (n : ℕ) (qs : Plains) → get_or names.names n [] ≡ w →
+      ItemTold j (codes "waiting " ++ name_text w) (root.Goal args) (ANode n qs) (codes "waiting " ++ text j (ANode n qs))
+  goal-item j w args n qs e =
+      let u = tokens_text names before leaf (argument_tokens os j qs) in
+      append_assoc (codes "waiting ") (name_text w) u
+      ∙ ap (λ v. codes "waiting " ++ v)
+      (ap (λ v. name_text v ++ u) (sym e) ∙ node-told n (texts j qs) u (arguments-told j qs) ∙ sym (text-node names leaf n (closed_all (numbered_all os j qs))))
+
+  -- one item more
+  item-told : (j i : ℕ) (r : Root) (p : Plain) (rs : List Root) (ps : Plains) (s x : Text) (xs : List Text) → get_or before i [] ≡ codes ", " ++ s → ItemTold j s r p x →
+      tokens_text names before leaf (roots_tokens os (j + length (plain_leaves p)) (suc i) rs ps) ≡ behind xs →
+      tokens_text names before leaf (roots_tokens os j i (r ∷ rs) (Cons p ps)) ≡ behind (x ∷ xs)
+  item-told j i r p rs ps s x xs e t f =
+      let k = j + length (plain_leaves p) in
+      let u = tokens_text names before leaf (root_tokens os j r p) in
+      ap (λ v. get_or before i [] ++ v) (parts-told (root_tokens os j r p) (roots_tokens os k (suc i) rs ps) u (behind xs) refl f)
+      ∙ ap (λ v. v ++ (u ++ behind xs)) e
+      ∙ append_assoc (codes ", ") s (u ++ behind xs)
+      ∙ ap (λ v. codes ", " ++ v) (sym (append_assoc s u (behind xs)) ∙ ap (λ v. v ++ behind xs) t)
+      ∙ sym (append_assoc (codes ", ") x (behind xs))
+
+  -- the items from the i-th on, for the variables and the goals that are left
+  items-told : (us : List (ℕ × Text)) (ws : List Text) (j i : ℕ) (rs : List Root) (ps : Plains) → AreOfLine names.names us ws rs ps →
+      ((k : ℕ) → get_or before (i + k) [] ≡ get_or (map (λ t. codes ", " ++ t) (starts us ws)) k []) →
+      tokens_text names before leaf (roots_tokens os j i rs ps) ≡ behind (items_text us (texts j ps))
+  items-told [] [] j i [] Nil a h = refl
+  items-told [] (w ∷ ws) j i (root.Goal args ∷ rs) (Cons (ANode n qs) ps) a h =
+      let k = j + length (all_leaves qs) in
+      item-told j i (root.Goal args) (ANode n qs) rs ps (codes "waiting " ++ name_text w) (codes "waiting " ++ text j (ANode n qs)) (items_text [] (texts k ps)) (at-first before i (starts [] (w ∷ ws)) h)
+      (goal-item j w args n qs a.0) (items-told [] ws k (suc i) rs ps a.1 (λ m. at-next before i (codes "waiting " ++ name_text w) (starts [] ws) h m))
+  items-told (u ∷ us) ws j i (root.Term r ∷ rs) (Cons p ps) a h =
+      let k = j + length (plain_leaves p) in
+      item-told j i (root.Term r) p rs ps (u.1 ++ codes " = ") ((u.1 ++ codes " = ") ++ text j p) (items_text us (texts k ps)) (at-first before i (starts (u ∷ us) ws) h)
+      (ap (λ v. (u.1 ++ codes " = ") ++ v) (term-told j p)) (items-told us ws k (suc i) rs ps a (λ m. at-next before i (u.1 ++ codes " = ") (starts us ws) h m))
+  items-told us ws j i rs ps a h = absurd a
 
 -- ---- the line
 
-line-told : (vs : List (ℕ × Text)) (names : Names) (leaf : ℕ → Text) (os : List Place) (ps : Plains) → names.printed ≡ vs → length vs ≤ how_many ps →
-    line_start vs ++ tokens_text names leaf (terms_tokens os 0 0 ps) ≡ joined (codes ", ") (line_items vs (map (tree_text names leaf) (closed_all (numbered_all os 0 ps))))
-line-told [] names leaf os ps e le =
-    ap (λ u. codes "yes" ++ u) (items-told names leaf os [] 0 0 ps (λ k. start k)) ∙ sym (joined-behind (codes "yes") (items_text [] (texts names leaf os 0 ps)))
-  where
-    start : (k : ℕ) → term_start names.printed (0 + k) ≡ codes ", " ++ codes "waiting "
-    start k = ap (λ ws. term_start ws (0 + k)) e ∙ waits (0 + k)
-      where
-        waits : (k : ℕ) → term_start [] k ≡ codes ", " ++ codes "waiting "
-        waits zero = refl
-        waits (suc k) = refl
-line-told (v ∷ vs) names leaf os Nil e le = absurd (omega (arith, le))
-line-told (v ∷ vs) names leaf os (Cons p ps) e le =
+line-told : (vs : List (ℕ × Text)) (names : Names) (ws : List Text) (leaf : ℕ → Text) (os : List Place) (rs : List Root) (ps : Plains) → AreOfLine names.names vs ws rs ps →
+    line_start vs ++ tokens_text names (term_starts vs ws) leaf (roots_tokens os 0 0 rs ps)
+    ≡ joined (codes ", ") (line_items vs (map (tree_text names leaf) (closed_all (numbered_all os 0 ps))))
+line-told [] names ws leaf os rs ps a =
+    let before = term_starts [] ws in
+    ap (λ u. codes "yes" ++ u) (items-told names before leaf os [] ws 0 0 rs ps a (λ k. ap (λ i. get_or before i []) (let e : 0 + k ≡ k = omega arith in e)))
+    ∙ sym (joined-behind (codes "yes") (items_text [] (texts names before leaf os 0 ps)))
+line-told (v ∷ vs) names ws leaf os (root.Term r ∷ rs) (Cons p ps) a =
+    let before = term_starts (v ∷ vs) ws in
     let k = 0 + length (plain_leaves p) in
-    let xs = items_text vs (texts names leaf os k ps) in
+    let xs = items_text vs (texts names before leaf os k ps) in
     let s = v.1 ++ codes " = " in
-    ap (λ u. u ++ tokens_text names leaf (tokens os 0 p ++ terms_tokens os k 1 ps)) (ap (λ ws. term_start ws 0) e)
-    ∙ ap (λ u. s ++ u) (parts-told names leaf os (tokens os 0 p) (terms_tokens os k 1 ps) (text names leaf os 0 p) (behind xs) (term-told names leaf os 0 p)
-    (items-told names leaf os vs k 1 ps (λ i. ap (λ ws. term_start ws (1 + i)) e ∙ ap (λ n. term_start (v ∷ vs) n) (let f : 1 + i ≡ suc i = omega arith in f))))
-    ∙ sym (append_assoc s (text names leaf os 0 p) (behind xs))
-    ∙ sym (joined-behind (s ++ text names leaf os 0 p) xs)
+    ap (λ u. s ++ u) (parts-told names before leaf os (tokens os 0 p) (roots_tokens os k 1 rs ps) (text names before leaf os 0 p) (behind xs) (term-told names before leaf os 0 p)
+    (items-told names before leaf os vs ws k 1 rs ps a (λ i. ap (λ m. get_or before m []) (let e : 1 + i ≡ suc i = omega arith in e))))
+    ∙ sym (append_assoc s (text names before leaf os 0 p) (behind xs))
+    ∙ sym (joined-behind (s ++ text names before leaf os 0 p) xs)
+line-told (v ∷ vs) names ws leaf os rs ps a = absurd a
 
-pub pieces-line : (names : Names) (leaf : ℕ → Text) (ps : Plains) → length names.printed ≤ how_many ps →
-    line_start names.printed ++ tokens_text names leaf (told_tokens ps) ≡ joined (codes ", ") (line_items names.printed (map (tree_text names leaf) (shape_of ps)))
-pieces-line names leaf ps le = line-told names.printed names leaf (firsts [] (all_opens ps)) ps refl le
+pub pieces-line : PiecesAreTheLine
+pieces-line names ws leaf rs ps a = line-told names.printed names ws leaf (firsts [] (all_opens ps)) rs ps a

@@ -10,7 +10,7 @@ use Rattle.cb_heap.specs.Reading.{Reading, CellsHold}
 use Rattle.cb_heap.proofs.Chains.{leads-value}
 use Rattle.cb_heap.proofs.Steps.{bit-inj, word-inj}
 use Rattle.cb_shape.specs.Laws.{OpensHave}
-use Rattle.cb_shape.specs.Terms.{EndsAt, IsLeaf, IsBus, IsTerm, AreTerms, AreRoots, how_many}
+use Rattle.cb_shape.specs.Terms.{EndsAt, IsLeaf, IsBus, IsTerm, AreCells, AreTerms, how_many}
 
 module _ (cs : List Stored) (g : Reading) (o : Valuation) (holds : CellsHold o.bits cs g) (opens : OpensHave cs g o) where
   -- the end of its links has the value of a cell
@@ -30,7 +30,7 @@ module _ (cs : List Stored) (g : Reading) (o : Valuation) (holds : CellsHold o.b
       end-value r h.0 (cell.BusCons h.1 h.2) h.3 ∙ k.4 ∙ (λ i. Word (b i ∷ w i))
 
   mutual
-    term-value : (r : ℕ) (p : Plain) → IsTerm cs r p → g r ≡ plain_value o p
+    pub term-value : (r : ℕ) (p : Plain) → IsTerm cs r p → g r ≡ plain_value o p
     term-value r (ALeaf s) h = leaf-value r s h
     term-value r (ABus ss t) h = bus-value r ss t h
     term-value r (AVar c) h = end-value r c cell.TermVar h ∙ opens.terms c h.there
@@ -42,8 +42,8 @@ module _ (cs : List Stored) (g : Reading) (o : Valuation) (holds : CellsHold o.b
     terms-value r Nil h = refl
     terms-value r (Cons p ps) h = let x = term-value r p h.0 in let xs = terms-value (suc r) ps h.1 in λ i. More (x i) (xs i)
 
-  pub roots-value : (rs : List Ref) (ps : Plains) → AreRoots cs rs ps → grounds (map (λ r. g r.0) rs) ≡ plain_values o ps
-  roots-value [] Nil h = refl
-  roots-value (r ∷ rs) (Cons p ps) h = let x = term-value r.0 p h.0 in let xs = roots-value rs ps h.1 in λ i. More (x i) (xs i)
-  roots-value [] (Cons p ps) h = absurd h
-  roots-value (r ∷ rs) Nil h = absurd h
+  pub cells-value : (rs : List Ref) (ps : Plains) → AreCells cs rs ps → grounds (map (λ r. g r.0) rs) ≡ plain_values o ps
+  cells-value [] Nil h = refl
+  cells-value (r ∷ rs) (Cons p ps) h = let x = term-value r.0 p h.0 in let xs = cells-value rs ps h.1 in λ i. More (x i) (xs i)
+  cells-value [] (Cons p ps) h = absurd h
+  cells-value (r ∷ rs) Nil h = absurd h

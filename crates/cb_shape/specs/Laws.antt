@@ -9,11 +9,12 @@ use Rattle.cb_heap.specs.declared.Stored.TheVariants as cell
 use Rattle.cb_heap.specs.Reading.{Reading, CellsHold}
 use Rattle.cb_heap.specs.Finite.{AllFinite, IsSorted}
 use Rattle.cb_heap.specs.Heap.{Terms}
-use Rattle.cb_shape.specs.Terms.{AreRoots}
+use Rattle.cb_shape.specs.declared.Root.{Root}
+use Rattle.cb_shape.specs.Terms.{AreCells, AreRoots, IsRootThere}
 
--- in a heap without cycles, whose cells fit a table, all cells are terms
+-- in a heap without cycles, whose cells fit a table, all roots whose cells are there are terms
 abbrev pub CellsAreTerms : Type 0
-CellsAreTerms = (t : Sorts) (h : Terms) → AllFinite h.cells → IsSorted t h.sorts h.cells → (roots : List Ref) → Each (λ r. r.0 < length h.cells) roots →
+CellsAreTerms = (t : Sorts) (h : Terms) → AllFinite h.cells → IsSorted t h.sorts h.cells → (roots : List Root) → Each (IsRootThere (length h.cells)) roots →
     (ps : Plains) × AreRoots h.cells roots ps
 
 -- the unbound cells have the values of the valuation
@@ -23,5 +24,5 @@ pub record OpensHave (cs : List Stored) (g : Reading) (o : Valuation) : Type 0 w
 
 -- at values of the cells, by bits of the slots and values of the unbound cells, each cell has the value of its term
 abbrev pub TermsHaveValues : Type 0
-TermsHaveValues = (cs : List Stored) (g : Reading) (o : Valuation) → CellsHold o.bits cs g → OpensHave cs g o → (roots : List Ref) (ps : Plains) → AreRoots cs roots ps →
-    grounds (map (λ r. g r.0) roots) ≡ plain_values o ps
+TermsHaveValues = (cs : List Stored) (g : Reading) (o : Valuation) → CellsHold o.bits cs g → OpensHave cs g o → (cells : List Ref) (ps : Plains) → AreCells cs cells ps →
+    grounds (map (λ r. g r.0) cells) ≡ plain_values o ps

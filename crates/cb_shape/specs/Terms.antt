@@ -1,11 +1,14 @@
 -- What stands in cells as terms. A cell's term is told by the end of its chain of links: leaves by their slots, and open
 -- places by their cells.
-use Rattle.std.specs.Prelude.{◌≡◌, ℕ, suc, List, [], ◌∷◌, Option, Some, None, slice_get}
+use Rattle.std.specs.Prelude.{◌≡◌, ℕ, suc, ◌<◌, List, [], ◌∷◌, Option, Some, None, slice_get}
+use Rattle.cb_model.specs.Bits.{Each}
 use Rattle.cb_laws.proofs.OpenTrees.{Plain, Plains, ALeaf, ABus, AVar, AnInt, ANode, Nil, Cons}
 use Rattle.cb_heap.specs.declared.Ref.{Ref}
 use Rattle.cb_heap.specs.declared.Stored.{Stored}
 use Rattle.cb_heap.specs.declared.Stored.TheVariants as cell
 use Rattle.cb_heap.specs.Links.{LeadsTo}
+use Rattle.cb_shape.specs.declared.Root.{Root}
+use Rattle.cb_shape.specs.declared.Root.TheVariants as root
 
 -- the links from cell r lead to cell e, where this stands
 pub record EndsAt (cs : List Stored) (r e : ℕ) (c : Stored) : Type 0 where
@@ -42,7 +45,24 @@ abbrev mutual
   AreTerms cs r (Cons p ps) = IsTerm cs r p × AreTerms cs (suc r) ps
 
 -- these cells are these terms
-abbrev pub AreRoots : List Stored → List Ref → Plains → Type 0
+abbrev pub AreCells : List Stored → List Ref → Plains → Type 0
+AreCells cs [] Nil = Unit {0}
+AreCells cs (r ∷ rs) (Cons p ps) = IsTerm cs r.0 p × AreCells cs rs ps
+AreCells cs _ _ = ⊥
+
+-- the root is this term: a goal is the compound of its arguments under a name, whichever
+abbrev pub IsRoot : List Stored → Root → Plain → Type 0
+IsRoot cs (root.Term r) p = IsTerm cs r.0 p
+IsRoot cs (root.Goal args) (ANode n ps) = AreCells cs args.now ps
+IsRoot cs (root.Goal args) p = ⊥
+
+-- these roots are these terms
+abbrev pub AreRoots : List Stored → List Root → Plains → Type 0
 AreRoots cs [] Nil = Unit {0}
-AreRoots cs (r ∷ rs) (Cons p ps) = IsTerm cs r.0 p × AreRoots cs rs ps
+AreRoots cs (r ∷ rs) (Cons p ps) = IsRoot cs r p × AreRoots cs rs ps
 AreRoots cs _ _ = ⊥
+
+-- the root's cells are there
+abbrev pub IsRootThere : ℕ → Root → Type 0
+IsRootThere n (root.Term r) = r.0 < n
+IsRootThere n (root.Goal args) = Each (λ r. r.0 < n) args.now

@@ -3,6 +3,8 @@ use Rattle.std.specs.Prelude.{◌≡◌, ℕ, suc, ◌+◌, true, false, List, [
 use Rattle.cb_model.specs.declared.Sort.TheVariants as sort
 use Rattle.cb_model.specs.Line.{is_wide}
 use Rattle.cb_laws.proofs.OpenTrees.{Plain, Plains, ALeaf, ABus, AVar, AnInt, ANode, Nil, Cons, Place, plain_leaves, all_leaves, all_opens}
+use Rattle.cb_shape.specs.declared.Root.{Root}
+use Rattle.cb_shape.specs.declared.Root.TheVariants as root
 use Rattle.cb_shape.specs.declared.Token.{Token}
 use Rattle.cb_shape.specs.declared.Token.TheVariants as token
 use Rattle.cb_shape.specs.declared.Printed.{Printed}
@@ -41,14 +43,20 @@ abbrev mutual
   rest_tokens os j Nil = token.RightParen ∷ []
   rest_tokens os j (Cons p ps) = token.Comma ∷ (tokens os j p ++ rest_tokens os (j + length (plain_leaves p)) ps)
 
--- terms from the i-th on, each behind its number
-abbrev pub terms_tokens : List Place → ℕ → ℕ → Plains → List Token
-terms_tokens os j i Nil = []
-terms_tokens os j i (Cons p ps) = token.Term i ∷ (tokens os j p ++ terms_tokens os (j + length (plain_leaves p)) (suc i) ps)
+-- a root; the name of a goal is left out
+abbrev pub root_tokens : List Place → ℕ → Root → Plain → List Token
+root_tokens os j (root.Term r) p = tokens os j p
+root_tokens os j (root.Goal args) (ANode n ps) = argument_tokens os j ps
+root_tokens os j (root.Goal args) p = []
 
--- the terms of an answer, with their open places numbered in order of first appearance
-abbrev pub told_tokens : Plains → List Token
-told_tokens ps = terms_tokens (firsts [] (all_opens ps)) 0 0 ps
+-- roots from the i-th on, each behind its number
+abbrev pub roots_tokens : List Place → ℕ → ℕ → List Root → Plains → List Token
+roots_tokens os j i (r ∷ rs) (Cons p ps) = token.Term i ∷ (root_tokens os j r p ++ roots_tokens os (j + length (plain_leaves p)) (suc i) rs ps)
+roots_tokens os j i _ _ = []
+
+-- the roots of an answer, with their open places numbered in order of first appearance
+abbrev pub told_tokens : List Root → Plains → List Token
+told_tokens rs ps = roots_tokens (firsts [] (all_opens ps)) 0 0 rs ps
 
 abbrev mutual
   -- the places of a term
@@ -61,13 +69,13 @@ abbrev mutual
   all_places Nil = 0
   all_places (Cons p ps) = plain_places p + all_places ps
 
--- what an answer shows of terms within its limits
-pub record IsShown (ps : Plains) (s : Printed) : Type 0 where
+-- what an answer shows of roots that are these terms, within its limits
+pub record IsShown (rs : List Root) (ps : Plains) (s : Printed) : Type 0 where
   pub narrow : is_wide (shape_of ps) ≡ false
-  pub tokens : s.tokens.items ≡ told_tokens ps
+  pub tokens : s.tokens.items ≡ told_tokens rs ps
   pub slots : s.slots.items ≡ all_leaves ps
 
 -- what it shows, or none past its limits
-abbrev pub Shows : Plains → Option Printed → Type 0
-Shows ps None = is_wide (shape_of ps) ≡ true
-Shows ps (Some s) = IsShown ps s
+abbrev pub Shows : List Root → Plains → Option Printed → Type 0
+Shows rs ps None = is_wide (shape_of ps) ≡ true
+Shows rs ps (Some s) = IsShown rs ps s

@@ -1,51 +1,53 @@
 -- The walk over terms in cells: what is still to be told, and what one step tells.
 use Rattle.std.specs.Prelude.{◌≡◌, ◌⊎◌, ℕ, zero, suc, ◌+◌, ◌<◌, ◌≤◌, List, [], ◌∷◌, ◌++◌, map, length, drop, Option, Some, slice_get}
+use Rattle.std.specs.Borrow.{Bor}
 use Rattle.cb_model.specs.declared.Sort.{Sort}
 use Rattle.cb_model.specs.declared.Sort.TheVariants as sort
 use Rattle.cb_laws.proofs.OpenTrees.{Plain, Plains, Place, bus_places, plain_leaves, all_leaves, plain_opens, all_opens}
 use Rattle.cb_heap.specs.declared.Ref.{Ref}
 use Rattle.cb_heap.specs.declared.Stored.{Stored}
 use Rattle.cb_heap.specs.declared.Stored.TheVariants as cell
+use Rattle.cb_shape.specs.declared.Root.{Root}
 use Rattle.cb_shape.specs.declared.Token.{Token}
 use Rattle.cb_shape.specs.declared.Token.TheVariants as token
 use Rattle.cb_shape.specs.declared.walk.Pending.{Pending}
 use Rattle.cb_shape.specs.declared.walk.Pending.TheVariants as pending
 use Rattle.cb_shape.specs.declared.walk.Walk.{Walk}
 use Rattle.cb_shape.specs.Shapes.{firsts}
-use Rattle.cb_shape.specs.Terms.{IsBus, IsTerm, AreTerms, AreRoots, how_many}
-use Rattle.cb_shape.specs.Tokens.{tail_tokens, tokens, rest_tokens, terms_tokens, plain_places, all_places}
+use Rattle.cb_shape.specs.Terms.{IsBus, IsTerm, AreCells, AreTerms, AreRoots, how_many}
+use Rattle.cb_shape.specs.Tokens.{tail_tokens, tokens, rest_tokens, roots_tokens, plain_places, all_places}
 
 -- what is still to be told
 pub data Work : Type 0 where
   Whole : Plain → Work
   Rest : Plains → Work
   Tail : List ℕ → Option ℕ → Work
-  Terms : ℕ → Plains → Work
+  Roots : ℕ → List Root → Plains → Work
 
 -- its tokens, leaves, open places and places
 abbrev pub work_tokens : List Place → ℕ → Work → List Token
 work_tokens os j (Whole p) = tokens os j p
 work_tokens os j (Rest ps) = rest_tokens os j ps
 work_tokens os j (Tail ss t) = tail_tokens os j ss t
-work_tokens os j (Terms i ps) = terms_tokens os j i ps
+work_tokens os j (Roots i rs ps) = roots_tokens os j i rs ps
 
 abbrev pub work_leaves : Work → List ℕ
 work_leaves (Whole p) = plain_leaves p
 work_leaves (Rest ps) = all_leaves ps
 work_leaves (Tail ss t) = ss
-work_leaves (Terms i ps) = all_leaves ps
+work_leaves (Roots i rs ps) = all_leaves ps
 
 abbrev pub work_opens : Work → List Place
 work_opens (Whole p) = plain_opens p
 work_opens (Rest ps) = all_opens ps
 work_opens (Tail ss t) = bus_places t
-work_opens (Terms i ps) = all_opens ps
+work_opens (Roots i rs ps) = all_opens ps
 
 abbrev pub work_places : Work → ℕ
 work_places (Whole p) = plain_places p
 work_places (Rest ps) = all_places ps
 work_places (Tail ss t) = length ss + 1
-work_places (Terms i ps) = all_places ps
+work_places (Roots i rs ps) = all_places ps
 
 -- the same of works, of which the first comes first
 abbrev pub told : List Place → ℕ → List Work → List Token
@@ -65,15 +67,16 @@ places_of [] = 0
 places_of (w ∷ ws) = work_places w + places_of ws
 
 -- what is pending is this work
-abbrev pub IsWork : List Stored → List Ref → Pending → Work → Type 0
+abbrev pub IsWork : List Stored → List Root → Pending → Work → Type 0
 IsWork cs roots (pending.Cell r) (Whole p) = IsTerm cs r.0 p
 IsWork cs roots (pending.Rest at k) (Rest ps) = (k ≡ how_many ps) × AreTerms cs at ps
+IsWork cs roots (pending.Arguments args) (Rest ps) = AreCells cs args.now ps
 IsWork cs roots (pending.Tail r) (Tail ss t) = IsBus cs r.0 ss t
-IsWork cs roots (pending.Roots i) (Terms k ps) = (k ≡ i) × (i ≤ length roots) × AreRoots cs (drop i roots) ps
+IsWork cs roots (pending.Roots i) (Roots k rs ps) = (k ≡ i) × (i ≤ length roots) × (rs ≡ drop i roots) × AreRoots cs rs ps
 IsWork cs roots _ _ = ⊥
 
 -- what is pending, of which the last comes first, is these works in turn
-abbrev pub AreWorks : List Stored → List Ref → List Pending → List Work → Type 0
+abbrev pub AreWorks : List Stored → List Root → List Pending → List Work → Type 0
 AreWorks cs roots [] [] = Unit {0}
 AreWorks cs roots (x ∷ xs) (w ∷ ws) = IsWork cs roots x w × AreWorks cs roots xs ws
 AreWorks cs roots _ _ = ⊥
@@ -110,8 +113,15 @@ TellsName at name (suc k) old new before after =
     Adds old new (token.Name name ∷ token.LeftParen ∷ []) [] old.opens.keys 1 ×
     (after ≡ before ++ pending.Rest (suc (suc at)) k ∷ pending.Cell (record { 0 = suc at }) ∷ [])
 
+-- a goal was told without its name, and of its arguments the first and the rest are pending
+abbrev pub TellsGoal : List Ref → Walk → Walk → List Pending → List Pending → Type 0
+TellsGoal [] old new before after = Adds old new [] [] old.opens.keys 1 × (after ≡ before)
+TellsGoal (r ∷ rs) old new before after =
+    Adds old new (token.LeftParen ∷ []) [] old.opens.keys 1 ×
+    (rest : Bor (List Ref)) × (rest.now ≡ rs) × (after ≡ before ++ pending.Arguments rest ∷ pending.Cell r ∷ [])
+
 -- A step told the front of a work, and left the rest of it pending.
-pub record Writes (cs : List Stored) (roots : List Ref) (w : Work) (old new : Walk) (before after : List Pending) : Type 0 where
+pub record Writes (cs : List Stored) (roots : List Root) (w : Work) (old new : Walk) (before after : List Pending) : Type 0 where
   pub ts : List Token
   pub ss : List ℕ
   pub d : ℕ
@@ -133,12 +143,12 @@ abbrev pub GoesOn : Walk → Walk → List Pending → List Pending → Type 0
 GoesOn old new before after = ((old.places < new.places) × (length after ≤ length before + 3)) ⊎ (length after ≤ length before)
 
 -- a step of the walk
-pub record Steps (cs : List Stored) (roots : List Ref) (w : Work) (old new : Walk) (before after : List Pending) : Type 0 where
+pub record Steps (cs : List Stored) (roots : List Root) (w : Work) (old new : Walk) (before after : List Pending) : Type 0 where
   pub writes : Writes cs roots w old new before after
   pub on : GoesOn old new before after
 
 -- the first place of a term was told, and at most two pieces are pending more
-pub record Begins (cs : List Stored) (roots : List Ref) (p : Plain) (old new : Walk) (before after : List Pending) : Type 0 where
+pub record Begins (cs : List Stored) (roots : List Root) (p : Plain) (old new : Walk) (before after : List Pending) : Type 0 where
   pub writes : Writes cs roots (Whole p) old new before after
   pub one : new.places ≡ old.places + 1
   pub few : length after ≤ length before + 2

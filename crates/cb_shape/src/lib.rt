@@ -23,17 +23,26 @@ pub const MOST_PLACES: usize = 65_536;
 /// The most leaves of an answer that is printed; one of more is `(wide)`.
 pub const MOST_LEAVES: usize = 4096;
 
+/// What an answer shows: a term, or a goal.
+#[derive(Clone, Copy, Drop)]
+pub enum Root<'a> {
+    /// The term of a cell.
+    Term(Ref),
+    /// A goal, by the cells of its arguments. Its name is left to the caller, and counts as a place.
+    Goal(&'a [Ref]),
+}
+
 /// A piece of the text of an answer's terms.
 #[derive(Clone, Copy, PartialEq, Eq, Debug)]
 pub enum Token {
-    /// Here the term of this number begins, counted from 0.
+    /// Here the root of this number begins, counted from 0: its term, or the name of its goal.
     Term(usize),
     /// A truth value: the leaf of this number, counted from 0 in order of print.
     Leaf(usize),
     /// An unbound variable by its number, counted from 0 in order of first appearance.
     Open(usize),
     Int(i64),
-    /// A name, by its number.
+    /// A name within a term, by its number.
     Name(u32),
     LeftParen,
     RightParen,
@@ -43,19 +52,19 @@ pub enum Token {
     Comma,
 }
 
-/// What an answer shows of its terms: the pieces of their text, and the slots of the leaves in order of print.
+/// What an answer shows of its roots: the pieces of their text, and the slots of the leaves in order of print.
 #[derive(Drop)]
 pub struct Printed {
     pub tokens: Vec<Token>,
     pub slots: Vec<usize>,
 }
 
-/// The shape of the terms in these cells. `None` where they have more than 65,536 places or more than 4,096 leaves; then
-/// the walk ended at the first place too many, however large the terms are.
-pub fn shape(alloc: Global, heap: &Heap, roots: &[Ref]) -> Result<Option<Printed>, AllocError>
+/// The shape of these terms and goals, with leaves and open places numbered through all of them. `None` where they have more
+/// than 65,536 places or more than 4,096 leaves; then the walk ended at the first place too many, however large they are.
+pub fn shape(alloc: Global, heap: &Heap, roots: &[Root<'_>]) -> Result<Option<Printed>, AllocError>
     requires heap { IsHeap heap.now }
     requires terms { (ps : Plains) × AreRoots heap.now.cells roots.now ps }
-    ensures { IfOk result (λ x. (ps : Plains) → AreRoots heap.now.cells roots.now ps → Shows ps x) }
+    ensures { IfOk result (λ x. (ps : Plains) → AreRoots heap.now.cells roots.now ps → Shows roots.now ps x) }
 {
     let mut walk = Walk::new(alloc);
     let mut pending = Vec::new(alloc);

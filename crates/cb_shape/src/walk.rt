@@ -5,26 +5,28 @@ ghost use Rattle.std.specs.List.{position_or_len};
 ghost use Rattle.indexmap.specs.IndexSet.{insert_key};
 ghost use Rattle.cb_laws.proofs.OpenTrees.{Plain, Plains};
 ghost use Rattle.cb_heap.specs.Heap.{IsHeap};
-ghost use Rattle.cb_heap.specs.declared.Ref.{Ref};
+ghost use Rattle.cb_shape.specs.declared.Root.{Root};
 ghost use Rattle.cb_shape.specs.declared.Token.TheVariants as token;
-ghost use Rattle.cb_shape.specs.Terms.{AreRoots, AreTerms, IsBus, IsLeaf, IsTerm, how_many};
-ghost use Rattle.cb_shape.specs.Walk.{Adds, Begins, IsWork, Tail, Rest, Steps, TellsName, Terms, Work};
+ghost use Rattle.cb_shape.specs.Terms.{AreCells, AreRoots, AreTerms, IsBus, IsLeaf, IsTerm, how_many};
+ghost use Rattle.cb_shape.specs.Walk.{Adds, Begins, IsWork, Tail, Rest, Roots, Steps, TellsGoal, TellsName, Work};
 
-use crate::{MOST_LEAVES, MOST_PLACES, Token};
+use crate::{MOST_LEAVES, MOST_PLACES, Root, Token};
 use cb_heap::{Heap, Ref, Stored};
 use indexmap::IndexSet;
 use std::alloc::{AllocError, Global};
 
 /// What is still to be told.
 #[derive(Clone, Copy, Drop)]
-pub(crate) enum Pending {
+pub(crate) enum Pending<'a> {
     /// The term of a cell.
     Cell(Ref),
     /// The arguments that stand from this cell on, so many, behind the first.
     Rest(usize, usize),
+    /// The arguments of a goal in these cells, behind the first.
+    Arguments(&'a [Ref]),
     /// What stands behind the first element of a bus: the bus of this cell.
     Tail(Ref),
-    /// The terms of the roots from this place on.
+    /// The roots from this place on.
     Roots(usize),
 }
 
@@ -112,7 +114,7 @@ fn tell_name(
     name: u32,
     count: usize,
     walk: &mut Walk,
-    pending: &mut Vec<Pending>,
+    pending: &mut Vec<Pending<'_>>,
 ) -> Result<(), AllocError>
     requires few { walk.old.places ≤ 65536 }
     requires there { at.0 + count < length heap.now.cells }
@@ -134,12 +136,12 @@ fn tell_cell(
     heap: &Heap,
     r: Ref,
     walk: &mut Walk,
-    pending: &mut Vec<Pending>,
+    pending: &mut Vec<Pending<'_>>,
 ) -> Result<(), AllocError>
     requires heap { IsHeap heap.now }
     requires term { (p : Plain) × IsTerm heap.now.cells r.0 p }
     requires few { walk.old.places ≤ 65536 }
-    ensures { OnOk result ((roots : List Ref) (p : Plain) → IsTerm heap.now.cells r.0 p → Begins heap.now.cells roots p walk.old walk.new pending.old.items pending.new.items) }
+    ensures { OnOk result ((roots : List Root) (p : Plain) → IsTerm heap.now.cells r.0 p → Begins heap.now.cells roots p walk.old walk.new pending.old.items pending.new.items) }
 {
     let end = heap.last(r);
     match heap.stored(end) {
@@ -167,12 +169,12 @@ fn tell_tail(
     heap: &Heap,
     r: Ref,
     walk: &mut Walk,
-    pending: &mut Vec<Pending>,
+    pending: &mut Vec<Pending<'_>>,
 ) -> Result<(), AllocError>
     requires heap { IsHeap heap.now }
     requires bus { (ss : List ℕ) × (t : Option ℕ) × IsBus heap.now.cells r.0 ss t }
     requires few { walk.old.places ≤ 65536 }
-    ensures { OnOk result ((roots : List Ref) (ss : List ℕ) (t : Option ℕ) → IsBus heap.now.cells r.0 ss t → Steps heap.now.cells roots (Tail ss t) walk.old walk.new pending.old.items pending.new.items) }
+    ensures { OnOk result ((roots : List Root) (ss : List ℕ) (t : Option ℕ) → IsBus heap.now.cells r.0 ss t → Steps heap.now.cells roots (Tail ss t) walk.old walk.new pending.old.items pending.new.items) }
 {
     let end = heap.last(r);
     match heap.stored(end) {
@@ -199,12 +201,12 @@ fn tell_rest(
     at: usize,
     count: usize,
     walk: &mut Walk,
-    pending: &mut Vec<Pending>,
+    pending: &mut Vec<Pending<'_>>,
 ) -> Result<(), AllocError>
     requires heap { IsHeap heap.now }
     requires terms { (ps : Plains) × (count ≡ how_many ps) × AreTerms heap.now.cells at ps }
     requires few { walk.old.places ≤ 65536 }
-    ensures { OnOk result ((roots : List Ref) (ps : Plains) → count ≡ how_many ps → AreTerms heap.now.cells at ps → Steps heap.now.cells roots (Rest ps) walk.old walk.new pending.old.items pending.new.items) }
+    ensures { OnOk result ((roots : List Root) (ps : Plains) → count ≡ how_many ps → AreTerms heap.now.cells at ps → Steps heap.now.cells roots (Rest ps) walk.old walk.new pending.old.items pending.new.items) }
 {
     if count == 0 {
         walk.tokens.push(Token::RightParen)?;
@@ -216,43 +218,87 @@ fn tell_rest(
     tell_cell(heap, Ref(at), walk, pending)
 }
 
-// Tells the front of the next root, or nothing where there is none.
-fn tell_root(
+// Tells the front of the next argument of a goal, or the end of its arguments.
+fn tell_arguments<'a>(
     heap: &Heap,
-    roots: &[Ref],
+    args: &'a [Ref],
+    walk: &mut Walk,
+    pending: &mut Vec<Pending<'a>>,
+) -> Result<(), AllocError>
+    requires heap { IsHeap heap.now }
+    requires terms { (ps : Plains) × AreCells heap.now.cells args.now ps }
+    requires few { walk.old.places ≤ 65536 }
+    ensures { OnOk result ((roots : List Root) (ps : Plains) → AreCells heap.now.cells args.now ps → Steps heap.now.cells roots (Rest ps) walk.old walk.new pending.old.items pending.new.items) }
+{
+    let Some((first, rest)) = args.split_first() else {
+        walk.tokens.push(Token::RightParen)?;
+        return Ok(());
+    };
+    walk.tokens.push(Token::Comma)?;
+    pending.push(Pending::Arguments(rest))?;
+    tell_cell(heap, *first, walk, pending)
+}
+
+// Tells a goal without its name, which counts as a place; its arguments are pending, and what stands behind it.
+fn tell_goal<'a>(
+    args: &'a [Ref],
+    walk: &mut Walk,
+    pending: &mut Vec<Pending<'a>>,
+) -> Result<(), AllocError>
+    requires few { walk.old.places ≤ 65536 }
+    ensures { OnOk result (TellsGoal args.now walk.old walk.new pending.old.items pending.new.items) }
+{
+    walk.places += 1;
+    let Some((first, rest)) = args.split_first() else {
+        return Ok(());
+    };
+    walk.tokens.push(Token::LeftParen)?;
+    pending.push(Pending::Arguments(rest))?;
+    pending.push(Pending::Cell(*first))?;
+    Ok(())
+}
+
+// Tells the front of the next root, or nothing where there is none.
+fn tell_root<'a>(
+    heap: &Heap,
+    roots: &[Root<'a>],
     at: usize,
     walk: &mut Walk,
-    pending: &mut Vec<Pending>,
+    pending: &mut Vec<Pending<'a>>,
 ) -> Result<(), AllocError>
     requires heap { IsHeap heap.now }
     requires terms { (ps : Plains) × (at ≤ length roots.now) × AreRoots heap.now.cells (drop at roots.now) ps }
     requires few { walk.old.places ≤ 65536 }
-    ensures { OnOk result ((ps : Plains) → at ≤ length roots.now → AreRoots heap.now.cells (drop at roots.now) ps → Steps heap.now.cells roots.now (Terms at ps) walk.old walk.new pending.old.items pending.new.items) }
+    ensures { OnOk result ((ps : Plains) → at ≤ length roots.now → AreRoots heap.now.cells (drop at roots.now) ps → Steps heap.now.cells roots.now (Roots at (drop at roots.now) ps) walk.old walk.new pending.old.items pending.new.items) }
 {
     if at == roots.len() {
         return Ok(());
     }
     walk.tokens.push(Token::Term(at))?;
     pending.push(Pending::Roots(at + 1))?;
-    tell_cell(heap, roots[at], walk, pending)
+    match roots[at] {
+        Root::Term(r) => tell_cell(heap, r, walk, pending),
+        Root::Goal(args) => tell_goal(args, walk, pending),
+    }
 }
 
 /// Tells the front of what is pending; the rest of it goes behind what is pending.
-pub(crate) fn step(
+pub(crate) fn step<'a>(
     heap: &Heap,
-    roots: &[Ref],
-    next: Pending,
+    roots: &[Root<'a>],
+    next: Pending<'a>,
     walk: &mut Walk,
-    pending: &mut Vec<Pending>,
+    pending: &mut Vec<Pending<'a>>,
 ) -> Result<(), AllocError>
     requires heap { IsHeap heap.now }
     requires work { (w : Work) × IsWork heap.now.cells roots.now next w }
     requires few { walk.old.places ≤ 65536 }
-    ensures { OnOk result ((w : Work) → IsWork heap.now.cells roots.now next w → Steps heap.now.cells roots.now w walk.old walk.new pending.old.items pending.new.items) }
+    ensures { OnOk result ((w : Work) → IsWork heap.now.cells roots.now next.entry w → Steps heap.now.cells roots.now w walk.old walk.new pending.old.items pending.new.items) }
 {
     match next {
         Pending::Cell(r) => tell_cell(heap, r, walk, pending),
         Pending::Rest(at, count) => tell_rest(heap, at, count, walk, pending),
+        Pending::Arguments(args) => tell_arguments(heap, args, walk, pending),
         Pending::Tail(r) => tell_tail(heap, r, walk, pending),
         Pending::Roots(at) => tell_root(heap, roots, at, walk, pending),
     }

@@ -46,4 +46,4 @@ returns-in-Ok-line-clause-text g c = λ ps r.
     let told = are-told c.args.state.now c.args.items.now c.requires.tellable c.args.printed.now c.requires.shown c.deref-2.result.now e c.general.new.store c.in_ok-form.form.first c.in_ok-form.form.nodes projected ps r in
     let constants = c.constants.ensures ∙ ap (λ (x : Booleans). x.constants) (c.store_ref-store.ensures ∙ c.in_ok-form.ensures.draws.same) ∙ ap (λ (x : Booleans). x.constants) c.store.ensures.value in
     line-told c.args.state.now c.args.items.now c.requires.tellable c.args.printed.now c.requires.shown c.deref-2.result.now e c.general.new.store c.in_ok-form.form.first c.in_ok-form.form.nodes projected
-    c.constants.result c.read.result.now names c.in-Ok-line.text.items ps r constants (c.read.ensures ∙ ap (λ (x : Booleans). x.nodes) c.store_ref-store.ensures) (c.in-Ok-line.ensures ps told)
+    c.constants.result c.read.result.now names c.in-Ok-line.text.items ps r constants (c.read.ensures ∙ ap (λ (x : Booleans). x.nodes) c.store_ref-store.ensures) (c.in-Ok-line.ensures.pieces ps told)
