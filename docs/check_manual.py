@@ -1,8 +1,8 @@
 #!/usr/bin/env python3
-"""Runs the sessions of MANUAL.md with the program and says where what it prints isn't what stands there.
+"""Runs the sessions of MANUAL.md and CASES.md with the program and says where what it prints isn't what stands there.
 
-The words are the path of the built program; without one it is built first, with the kit. The sessions run in a copy
-of the folder examples/.
+The words are the path of the built program; without one it is built first, with the kit. The sessions of each text run
+in copies of the folders examples/ and tools/, side by side.
 """
 import os
 import pathlib
@@ -13,7 +13,8 @@ import tempfile
 
 DOCS = pathlib.Path(__file__).resolve().parent
 CRATE = DOCS.parent / "crates" / "chipbool"
-EXAMPLES = DOCS.parent / "examples"
+FOLDERS = ("examples", "tools")
+TEXTS = ("MANUAL.md", "CASES.md")
 
 
 def sessions(text):
@@ -37,26 +38,32 @@ def printed(command, here, folder, program):
     if here:
         command = command + " <<'END'\n" + "\n".join(here) + "\nEND\n"
     shell = 'chipbool() { "$PROGRAM" "$@"; }\n' + command
-    environment = dict(os.environ, PROGRAM=str(program))
+    environment = dict(os.environ, PROGRAM=str(program), CHIPBOOL=str(program))
     run = subprocess.run(["bash", "-c", shell], cwd=folder, env=environment, capture_output=True)
     return run.stdout.decode().splitlines()
+
+
+def differing(name, program):
+    """How many commands a text has, and how many of them print otherwise than it says; these are written."""
+    wrong, commands = 0, sessions((DOCS / name).read_text())
+    with tempfile.TemporaryDirectory() as folder:
+        for beside in FOLDERS:
+            shutil.copytree(DOCS.parent / beside, pathlib.Path(folder) / beside)
+        for command, here, wanted in commands:
+            got = printed(command, here, pathlib.Path(folder) / "examples", program)
+            if got != wanted:
+                wrong += 1
+                print(f"$ {command}\nwanted {wanted}\n   got {got}")
+    print(f"{name}: {len(commands)} commands, {wrong} not as it says")
+    return len(commands), wrong
 
 
 def main():
     program = pathlib.Path(sys.argv[1]).resolve() if sys.argv[1:] else CRATE / "out" / "chipbool"
     if not sys.argv[1:]:
         subprocess.run(["rt", "run", "--", "check"], cwd=CRATE, capture_output=True)
-    wrong = 0
-    commands = sessions((DOCS / "MANUAL.md").read_text())
-    with tempfile.TemporaryDirectory() as folder:
-        shutil.copytree(EXAMPLES, folder, dirs_exist_ok=True)
-        for command, here, wanted in commands:
-            got = printed(command, here, folder, program)
-            if got != wanted:
-                wrong += 1
-                print(f"$ {command}\nwanted {wanted}\n   got {got}")
-    print(f"{len(commands)} commands, {wrong} not as the manual says")
-    return 1 if wrong or not commands else 0
+    told = [differing(name, program) for name in TEXTS]
+    return 0 if all(many and not wrong for many, wrong in told) else 1
 
 
 sys.exit(main())
