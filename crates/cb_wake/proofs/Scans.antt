@@ -1,5 +1,5 @@
 -- Scans of waiting goals.
-use Rattle.std.proofs.Common.{◌≡◌, ℕ, zero, suc, ◌+◌, ◌<◌, ◌≤◌, ◌⊎◌, inl, inr, Bool, true, false, List, [], ◌∷◌, ◌++◌, length, take, drop, get_or, Option, Some, None, refl, sym, ap, subst, ◌∙◌, arith}
+use Rattle.std.proofs.Common.{◌≡◌, ℕ, zero, suc, ◌+◌, ◌<◌, ◌≤◌, inl, inr, Bool, true, false, List, [], ◌∷◌, ◌++◌, length, take, drop, get_or, Some, None, refl, sym, ap, subst, ◌∙◌, arith}
 use Rattle.std.specs.Prelude.{slice_get, slice_set}
 use Rattle.std.proofs.lemmas.Option.{slice_get-get_or, slice_get_within}
 use Rattle.std.proofs.lemmas.Bool.{cases_lt}
@@ -7,7 +7,7 @@ use Rattle.std.proofs.lemmas.List.{length-set, take_all}
 use Rattle.std.proofs.Math.Seq.{take-length}
 use Rattle.std.proofs.Math.Numerals.{add-one}
 use Rattle.cb_model.specs.Bits.{Parts, none, yes_here, no_here, Each}
-use Rattle.cb_wake.specs.Waits.{IsLeast, IsScanned, IsTaken, NoneReady, Waits, numbers_of, waiting, without}
+use Rattle.cb_wake.specs.Waits.{IsScanned, IsTaken, NoneReady, Waits, numbers_of, waiting, without}
 use Rattle.cb_wake.specs.Moments.{KeepsMoments}
 use Rattle.cb_wake.proofs.Back.{keeps-self, keeps-then, keeps-taken}
 
@@ -193,3 +193,19 @@ are-whole P Q old now new ws g h t = subst (λ u. Parts P (waiting old) ws (wait
 
 pub are-fewer : (Q : ℕ → Type 0) (now new : Waits) (k : ℕ) → IsTaken Q now new (Some k) → length (waiting new) < length (waiting now)
 are-fewer Q now new k t = subst (λ (u : Waits). length (waiting u) < length (waiting now)) (sym t.0) (fewer 0 k now.still t.1.0)
+
+-- ---- where the next scan begins
+
+-- a test that says the same
+pub scan-same : (P Q : ℕ → Type 0) (xs : List Bool) (k : ℕ) → ((j : ℕ) → Q j → P j) → IsScanned P xs k → IsScanned Q xs k
+scan-same P Q xs k f h = record { none = λ j l s q. h.none j l s (f j q) }
+
+-- behind the goal that was taken
+pub scan-taken : (P Q : ℕ → Type 0) (now new : Waits) (k : ℕ) → ((j : ℕ) → P j → Q j) → IsTaken Q now new (Some k) → IsScanned P new.still (k + 1)
+scan-taken P Q now new k f t = subst (λ (u : Waits). IsScanned P u.still (k + 1)) (sym t.0) (record { none = λ j l s p. before j l (still-after now.still k j s) p })
+  where
+    before : (j : ℕ) → j < k + 1 → (slice_get now.still j ≡ Some true) × (j ≡ k → ⊥) → P j → ⊥
+    before j l s p = elim (cases_lt j k) [
+      | inl less ↦ t.1.2 j less s.0 (f j p)
+      | inr not_less ↦ let e : j ≡ k = omega arith in s.1 e
+    ]

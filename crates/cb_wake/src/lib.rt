@@ -2,10 +2,10 @@
 //! moment. The goals themselves, and what makes one ready, are the caller's (coroutines by delayed goals: Carlsson 1987).
 #![tactic(auto)]
 
-ghost use Rattle.std.specs.Prelude.{◌≡◌, ◌↔◌, ℕ, ◌+◌, ◌-◌, ◌^◌, ◌≤◌, true, Some, min, [], ◌∷◌, ◌++◌, length, take, drop, Ok, Err, IfOk, OnOk, OnErr, IsTrue, slice_get};
+ghost use Rattle.std.specs.Prelude.{◌≡◌, ◌↔◌, ℕ, ◌+◌, ◌-◌, ◌^◌, ◌<◌, ◌≤◌, true, Some, min, [], ◌∷◌, ◌++◌, length, take, drop, Ok, Err, IfOk, IfSome, OnOk, OnErr, IsTrue, slice_get};
 ghost use Rattle.cb_model.specs.Bits.{Parts};
 ghost use Rattle.cb_model.specs.Outside.{Rose};
-ghost use Rattle.cb_wake.specs.Waits.{IsLeast, IsTaken, Waits, no_goals, numbers_of, waiting};
+ghost use Rattle.cb_wake.specs.Waits.{IsLeast, IsScanned, IsTaken, Waits, no_goals, numbers_of, waiting};
 ghost use Rattle.cb_wake.specs.Moments.{IsMoment, KeepsMoments, moment_of, put_back, reverted};
 
 use cb_dd::Stop;
@@ -139,7 +139,22 @@ impl Waiting {
         ensures stops_stay { T.stops tester.old ≤ T.stops tester.new }
         ensures nodes { result ≡ Err Stop.Nodes → Rose (T.stops tester.old) (T.stops tester.new) × T.may_stop tester.old }
     {
-        let found = least_ready(self.still.as_slice(), tester)?;
+        self.take_next(0, tester)
+    }
+
+    // The same, where no goal below this number is ready: none of these is asked about.
+    fn take_next<T: Tester>(&mut self, from: usize, tester: &mut T) -> Result<Option<usize>, Stop>
+        requires scanned { IsScanned (T.is_ready tester.old) self.old.still from }
+        ensures taken { IfOk result (λ r. IsTaken (T.is_ready tester.old) self.old self.new r) }
+        ensures small { IfOk result (λ r. IfSome r (λ k. k < 2 ^ 63)) }
+        ensures moments { KeepsMoments self.old self.new }
+        ensures refused { OnErr result (self.new ≡ self.old) }
+        ensures kept { T.keeps tester.old tester.new }
+        ensures tests { T.tests tester.new ≤ T.tests tester.old + length (waiting self.old) }
+        ensures stops_stay { T.stops tester.old ≤ T.stops tester.new }
+        ensures nodes { result ≡ Err Stop.Nodes → Rose (T.stops tester.old) (T.stops tester.new) × T.may_stop tester.old }
+    {
+        let found = least_ready(self.still.as_slice(), from, tester)?;
         if let Some(k) = found {
             if self.taken.push(k).is_err() {
                 return Err(Stop::Memory);
@@ -188,16 +203,22 @@ impl Waiting {
     }
 }
 
-// The ready goal with the least number.
-fn least_ready<T: Tester>(still: &[bool], tester: &mut T) -> Result<Option<usize>, Stop>
+// The ready goal with the least number, where none below this one is ready.
+fn least_ready<T: Tester>(
+    still: &[bool],
+    from: usize,
+    tester: &mut T,
+) -> Result<Option<usize>, Stop>
+    requires scanned { IsScanned (T.is_ready tester.old) still.now from }
     ensures some { IfOk result (λ r. IsLeast (T.is_ready tester.old) still.now r) }
     ensures kept { T.keeps tester.old tester.new }
     ensures tests { T.tests tester.new ≤ T.tests tester.old + length (numbers_of 0 still.now) }
     ensures stops_stay { T.stops tester.old ≤ T.stops tester.new }
     ensures nodes { result ≡ Err Stop.Nodes → Rose (T.stops tester.old) (T.stops tester.new) × T.may_stop tester.old }
 {
-    for (k, waits) in still.iter().enumerate() {
-        if *waits {
+    for k in from..still.len() {
+        let waits = still[k];
+        if waits {
             match tester.ready(k) {
                 Ok(true) => return Ok(Some(k)),
                 Ok(false) => {}
@@ -221,7 +242,8 @@ fn take_back(still: &mut [bool], taken: &mut Trail<usize>, to: u64)
     }
 }
 
-/// Takes all ready goals, in order of number, into an empty list. After a refusal some may be taken; an `undo` puts them back.
+/// Takes all ready goals, in order of number, into an empty list, in one pass over those that wait. After a refusal some
+/// may be taken; an `undo` puts them back.
 pub fn take_all<T: Tester>(
     waits: &mut Waiting,
     tester: &mut T,
@@ -235,12 +257,14 @@ pub fn take_all<T: Tester>(
     ensures stops_stay { T.stops tester.old ≤ T.stops tester.new }
     ensures nodes { result ≡ Err Stop.Nodes → Rose (T.stops tester.old) (T.stops tester.new) × T.may_stop tester.old }
 {
+    let mut from = 0;
     loop {
-        match waits.take_ready(tester) {
+        match waits.take_next(from, tester) {
             Ok(Some(k)) => {
                 if woken.push(k).is_err() {
                     return Err(Stop::Memory);
                 }
+                from = k + 1;
             }
             Ok(None) => return Ok(()),
             Err(stop) => return Err(stop),

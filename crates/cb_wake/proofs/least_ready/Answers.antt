@@ -1,8 +1,8 @@
 use Rattle.std.specs.Prelude.{slice_get, min, ◌^◌, ◌-◌}
-use Rattle.std.proofs.Common.{◌≡◌, ◌≤◌, ◌<◌, ◌+◌, Some, refl, ℕ, true, false, Bool, Ok, Err, arith, subst, sym, ap, length, take, List}
+use Rattle.std.proofs.Common.{◌≡◌, ◌≤◌, ◌<◌, ◌+◌, Some, refl, ℕ, true, Bool, arith, subst, sym, length, take, List}
 use Rattle.std.proofs.Math.Nat.{min-le_left}
 use Rattle.cb_wake.specs.Waits.{numbers_of}
-use Rattle.cb_wake.proofs.Scans.{scan-start, scan-more, scan-off, scan-on, scan-whole, not-both, few-more, few-less, few-all}
+use Rattle.cb_wake.proofs.Scans.{scan-more, scan-off, scan-on, scan-whole, not-both, few-more, few-less, few-all}
 use Rattle.cb_wake.proofs.least_ready.Goals as goal
 use Rattle.cb_wake.proofs.least_ready.Goals.{then-waits+in-Ok-false, else-waits}
 
@@ -17,7 +17,7 @@ loop-k-init g c = record {
   kept = g.met.T.Tester.keeps_self c.args.tester.now;
   stops = omega arith;
   tests = omega arith;
-  scanned = scan-start (g.T.Tester.is_ready c.args.tester.now) c.args.still.now;
+  scanned = c.requires.scanned;
 }
 
 pub returns-in-Ok-true-clause-some : goal.returns-in-Ok-true-clause-some

@@ -1,4 +1,4 @@
-use Rattle.std.proofs.Common.{◌≡◌, ◌<◌, ◌≤◌, [], ◌∷◌, ◌++◌, length, refl, ◌∙◌, arith}
+use Rattle.std.proofs.Common.{◌≡◌, ◌<◌, [], ◌∷◌, ◌++◌, length, refl, ◌∙◌, arith}
 use Rattle.cb_wake.proofs.Back.{still-step, still-past, taken-step, mark-step}
 use Rattle.cb_wake.proofs.take_back.Goals as goal
 
