@@ -21,6 +21,8 @@ use Rattle.cb_goals.specs.Chain.{goals_at}
 use Rattle.cb_goals.proofs.Lists.{goals-empty}
 use Rattle.cb_elim.specs.Store.{view_of}
 use Rattle.cb_heap.proofs.Steps.{no_some}
+use Rattle.cb_wake.specs.Waits.{Waits, no_goals}
+use Rattle.cb_ready.specs.Parked.{Parked}
 use Rattle.cb_unify.specs.State as state
 use Rattle.cb_unify.specs.State.{FitsTable, IsState, no_state}
 use Rattle.cb_unify.proofs.Back.{empty-state}
@@ -78,7 +80,7 @@ always-solvable w a admitted = record { b = record { bits = λ n. false; words =
 
 module _ (p : Source) (q : Asked) (nodes : ℕ) (u : state.Seen) (frame : List ℕ) (ls : List Link) (list : ℕ) (runnable : IsRunnable p q) (is : IsState u) (adds : AddsFrame (no_state (length p.declared.constants) nodes) u q.sorts frame) where
   abbrev Begun : Seen
-  Begun = record { program = p; query = q; state = u; frames = frame ∷ []; links = ls; top = list; steps = 0 }
+  Begun = record { program = p; query = q; state = u; frames = frame ∷ []; links = ls; top = list; steps = 0; waits = no_goals; parked = [] }
 
   asked-from : (place : ℕ) (gs : List Goal) → ((i : ℕ) (g : Goal) → slice_get gs i ≡ Some g → slice_get q.goals (place + i) ≡ Some g) → Each (IsGoalFor (asked_program p q []) (length p.names) q.sorts) gs →
       AreGoals Begun (asked_goals place (length gs)) gs
@@ -110,8 +112,10 @@ module _ (p : Source) (q : Asked) (nodes : ℕ) (u : state.Seen) (frame : List �
         (asked-from 0 q.goals (λ i g f. let n : 0 + i ≡ i = omega arith in ap (λ m. slice_get q.goals m) n ∙ f) runnable.goals);
     top = inside;
     asked = record { cells = frame; at = refl; placed = adds.frame_is };
-    waiting = refl;
+    waiting = tt;
     next = refl;
+    parked = refl;
+    there = tt;
     steps = refl;
     runnable = runnable;
   }
@@ -155,7 +159,7 @@ pub pushed-more : {X : Type 0} (b : Bool) (old new : List X) (x : X) → new ≡
 pushed-more true old new x e = (x ∷ [], e)
 pushed-more false old new x e = ([], e ∙ sym (append-nil old))
 
-module _ (now : Seen) (p : Source) (q : Asked) (u : state.Seen) (fs : List (List ℕ)) (ls : List Link) (top steps : ℕ) (v : seen p q u fs ls top steps ≡ now) (nodes : ℕ) (e : now ≡ unbegun now.program now.query nodes) where
+module _ (now : Seen) (p : Source) (q : Asked) (u : state.Seen) (fs : List (List ℕ)) (ls : List Link) (top steps : ℕ) (ws : Waits) (pk : List Parked) (v : seen p q u fs ls top steps ws pk ≡ now) (nodes : ℕ) (e : now ≡ unbegun now.program now.query nodes) where
   state-none : u ≡ no_state (length p.declared.constants) nodes
   state-none = ap (λ (o : Seen). o.state) (v ∙ e) ∙ ap (λ (x : Source). no_state (length x.declared.constants) nodes) (sym (ap (λ (o : Seen). o.program) v))
 
@@ -171,6 +175,12 @@ module _ (now : Seen) (p : Source) (q : Asked) (u : state.Seen) (fs : List (List
   steps-none : steps ≡ 0
   steps-none = ap (λ (o : Seen). o.steps) (v ∙ e)
 
+  waits-none : ws ≡ no_goals
+  waits-none = ap (λ (o : Seen). o.waits) (v ∙ e)
+
+  parked-none : pk ≡ []
+  parked-none = ap (λ (o : Seen). o.parked) (v ∙ e)
+
   pub links-more : (ls' : List Link) → ls' ≡ ls ++ ls'
   links-more ls' = ap (λ (l : List Link). l ++ ls') (sym links-none)
 
@@ -184,7 +194,7 @@ module _ (now : Seen) (p : Source) (q : Asked) (u : state.Seen) (fs : List (List
       omega arith
 
   pub begin-branch : (t : state.Seen) (frame : List ℕ) (fs' : List (List ℕ)) (ls' : List Link) (list : ℕ) (zs : List Sort) (gs : List Goal) → zs ≡ q.sorts → gs ≡ q.goals → AddsFrame u t zs frame → IsState t →
-      fs' ≡ fs ++ frame ∷ [] → IsRunnable now.program now.query → list ≤ length ls' → goals_at ls' list ≡ asked_goals 0 (length gs) → IsBranch (seen p q t fs' ls' list steps) (first_branch (query_of now))
+      fs' ≡ fs ++ frame ∷ [] → IsRunnable now.program now.query → list ≤ length ls' → goals_at ls' list ≡ asked_goals 0 (length gs) → IsBranch (seen p q t fs' ls' list steps ws pk) (first_branch (query_of now))
   unfolding IsBranch query_of
   begin-branch t frame fs' ls' list zs gs ez eg adds is ef runnable inside el =
       let added : AddsFrame (no_state (length p.declared.constants) nodes) t q.sorts frame =
@@ -192,6 +202,9 @@ module _ (now : Seen) (p : Source) (q : Asked) (u : state.Seen) (fs : List (List
       let runs : IsRunnable p q = subst (λ (o : Seen). IsRunnable o.program o.query) (sym v) runnable in
       let h = begun-branch p q nodes t frame ls' list runs is added inside (el ∙ ap (λ (x : List Goal). asked_goals 0 (length x)) eg) in
       let framed : fs' ≡ frame ∷ [] = ef ∙ ap (λ (x : List (List ℕ)). x ++ frame ∷ []) frames-none in
-      let placed = subst (λ (x : List (List ℕ)). IsTheBranch (seen p q t x ls' list 0) (first_branch (asked_query q))) (sym framed) h in
-      let counted = subst (λ (n : ℕ). IsTheBranch (seen p q t fs' ls' list n) (first_branch (asked_query q))) (sym steps-none) placed in
-      subst (λ (o : Seen). IsTheBranch (seen p q t fs' ls' list steps) (first_branch (asked_query o.query))) v counted
+      let placed = subst (λ (x : List (List ℕ)). IsTheBranch (seen p q t x ls' list 0 no_goals []) (first_branch (asked_query q))) (sym framed) h in
+      let counted = subst (λ (n : ℕ). IsTheBranch (seen p q t fs' ls' list n no_goals []) (first_branch (asked_query q))) (sym steps-none) placed in
+      let waits : IsTheBranch (seen p q t fs' ls' list steps ws []) (first_branch (asked_query q)) =
+      subst (λ (w : Waits). IsTheBranch (seen p q t fs' ls' list steps w []) (first_branch (asked_query q))) (sym waits-none) counted in
+      let held = subst (λ (k : List Parked). IsTheBranch (seen p q t fs' ls' list steps ws k) (first_branch (asked_query q))) (sym parked-none) waits in
+      subst (λ (o : Seen). IsTheBranch (seen p q t fs' ls' list steps ws pk) (first_branch (asked_query o.query))) v held

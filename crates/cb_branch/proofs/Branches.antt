@@ -1,40 +1,54 @@
 -- A branch that goes on: what its goals stand for, and what it is after an addition.
-use Rattle.std.proofs.Common.{◌≡◌, inl, inr, ℕ, suc, ◌+◌, ◌≤◌, List, [], ◌∷◌, ◌++◌, length, map, Some, refl, sym, ap, subst, ◌∙◌, arith}
-use Rattle.std.specs.Prelude.{slice_get}
+use Rattle.std.proofs.Common.{◌≡◌, inl, inr, ℕ, zero, suc, ◌+◌, ◌<◌, ◌≤◌, List, [], ◌∷◌, ◌++◌, length, map, Some, refl, sym, ap, subst, ◌∙◌, arith}
+use Rattle.std.specs.Prelude.{get_or, slice_get}
 use Rattle.cb_model.specs.declared.Sort.{Sort}
 use Rattle.cb_model.specs.declared.Tree.{Tree}
+use Rattle.cb_model.specs.declared.Tree.TheVariants as tree
 use Rattle.cb_model.specs.declared.Goal.{Goal}
 use Rattle.cb_model.specs.declared.Goal.TheVariants as goal
 use Rattle.cb_model.specs.declared.Clause.{Clause}
-use Rattle.cb_model.specs.Bits.{Each, Parts, none}
+use Rattle.cb_model.specs.Bits.{Each}
+use Rattle.cb_model.specs.Values.{Sorts}
 use Rattle.cb_model.specs.Program.{Program, bools, shift_goal, shift_tree}
 use Rattle.cb_model.specs.Equations.{Item}
-use Rattle.cb_model.specs.Derivation.{Branch, Waiting, Ready, extended, Woken}
+use Rattle.cb_model.specs.Derivation.{Branch, Waiting, extended}
 use Rattle.cb_sorts.specs.OverFile.{asked_program}
 use Rattle.cb_goals.specs.declared.Link.{Link}
 use Rattle.cb_goals.specs.declared.Pending.{Pending}
 use Rattle.cb_goals.specs.declared.Pending.TheVariants as pending
 use Rattle.cb_goals.specs.Chain.{goals_at, body_goals}
+use Rattle.cb_heap.specs.declared.Ref.{Ref}
+use Rattle.cb_wake.specs.Waits as wake
 use Rattle.cb_unify.specs.State as state
 use Rattle.cb_unify.specs.State.{IsState, FitsTable}
 use Rattle.cb_unify.specs.Growth.{IsGrown}
 use Rattle.cb_unify.proofs.Opened.{bools-append, get-left, where-is}
-use Rattle.cb_branch.specs.Running.{Seen, Place, IsAt, StandsFor, AreGoals, HasAsked, IsTheBranch, IsBranch, GoesOn, behind}
+use Rattle.cb_branch.specs.Running.{Seen, Place, IsAt, IsParked, StandsFor, StandsInCells, StandsInText, AreGoals, AreWaiting, HasAsked, IsTheBranch, behind}
 use Rattle.cb_items.specs.Shifted.{IsShiftedGoal, AreShifted}
 use Rattle.cb_branch.specs.Scope.{IsGoalFor}
 use Rattle.cb_items.specs.Standing.{IsFrame, IsVals, HasVariables}
+use Rattle.cb_ready.specs.Asking.{IsThere}
+use Rattle.cb_ready.specs.Parked.{Parked}
+use Rattle.cb_ready.proofs.Standing.{parked-later}
 use Rattle.cb_branch.specs.Terms.{Adds}
 use Rattle.cb_items.proofs.Lists.{append-nil, got-left, length-append, some-of, some-one}
-use Rattle.cb_items.proofs.Bridges.{frame-later}
+use Rattle.cb_items.proofs.Bridges.{frame-later, stands-later}
 use Rattle.cb_items.proofs.Shifts.{shifted-value}
+use Rattle.cb_branch.proofs.Cells.{there-later}
 
 -- the program that is asked
 abbrev pub asked : Seen → Program
 asked s = asked_program s.program s.query []
 
--- the same program and query, with another state, frames and goals
+-- the same program, query and parked calls, with another state, frames and goals
 abbrev pub moved : Seen → state.Seen → List (List ℕ) → List Link → ℕ → ℕ → Seen
-moved s u fs ls top steps = record { program = s.program; query = s.query; state = u; frames = fs; links = ls; top = top; steps = steps }
+moved s u fs ls top steps = record { program = s.program; query = s.query; state = u; frames = fs; links = ls; top = top; steps = steps; waits = s.waits; parked = s.parked }
+
+-- what a map gives where something stands
+pub got-mapped : {A B : Type 0} (f : A → B) (xs : List A) (k : ℕ) (x : A) (d : B) → slice_get xs k ≡ Some x → get_or (map f xs) k d ≡ f x
+got-mapped {A = A} {B = B} f [] k x d e = absurd (cc)
+got-mapped {A = A} {B = B} f (y ∷ ys) zero x d e = ap f (some-one y x e)
+got-mapped {A = A} {B = B} f (y ∷ ys) (suc k) x d e = got-mapped f ys k x d e
 
 -- ---- goals
 
@@ -43,9 +57,9 @@ at-later s u fs ls top steps (pending.Asked place) w h = h
 at-later s u fs ls top steps (pending.Body clause place frame) w h = h
 at-later s u fs ls top steps (pending.Called pred call) w h = h
 
-stands-on : (s : Seen) (u : state.Seen) (fs more : List (List ℕ)) (ls : List Link) (top steps : ℕ) (x : Pending) (g : Goal) → fs ≡ s.frames ++ more → IsGrown s.state u → StandsFor s x g →
-    StandsFor (moved s u fs ls top steps) x g
-stands-on s u fs more ls top steps x g e grown h = record {
+text-on : (s : Seen) (u : state.Seen) (fs more : List (List ℕ)) (ls : List Link) (top steps : ℕ) (x : Pending) (g : Goal) → fs ≡ s.frames ++ more → IsGrown s.state u → StandsInText s x g →
+    StandsInText (moved s u fs ls top steps) x g
+text-on s u fs more ls top steps x g e grown h = record {
   place = h.place;
   is = at-later s u fs ls top steps x h.place h.is;
   good = h.good;
@@ -56,12 +70,55 @@ stands-on s u fs more ls top steps x g e grown h = record {
   shifted = h.shifted;
 }
 
+cells-on : (s : Seen) (u : state.Seen) (fs : List (List ℕ)) (ls : List Link) (top steps pred call : ℕ) (g : Goal) → IsGrown s.state u → StandsInCells s pred call g → StandsInCells (moved s u fs ls top steps) pred call g
+cells-on s u fs ls top steps pred call g grown h = record {
+  args = h.args;
+  is = h.is;
+  there = there-later s.state u call grown h.there;
+  stands = stands-later (asked s).world.arguments s.state u call (tree.Node pred h.args) grown h.stands;
+  number = h.number;
+  named = h.named;
+  plain = h.plain;
+}
+
+stands-on : (s : Seen) (u : state.Seen) (fs more : List (List ℕ)) (ls : List Link) (top steps : ℕ) (x : Pending) (g : Goal) → fs ≡ s.frames ++ more → IsGrown s.state u → StandsFor s x g →
+    StandsFor (moved s u fs ls top steps) x g
+stands-on s u fs more ls top steps (pending.Asked place) g e grown h = text-on s u fs more ls top steps (pending.Asked place) g e grown h
+stands-on s u fs more ls top steps (pending.Body clause place frame) g e grown h = text-on s u fs more ls top steps (pending.Body clause place frame) g e grown h
+stands-on s u fs more ls top steps (pending.Called pred call) g e grown h = cells-on s u fs ls top steps pred call.0 g grown h
+
 pub goals-on : (s : Seen) (u : state.Seen) (fs more : List (List ℕ)) (ls : List Link) (top steps : ℕ) (xs : List Pending) (gs : List Goal) → fs ≡ s.frames ++ more → IsGrown s.state u → AreGoals s xs gs →
     AreGoals (moved s u fs ls top steps) xs gs
 goals-on s u fs more ls top steps [] [] e grown h = tt
 goals-on s u fs more ls top steps (x ∷ xs) (g ∷ gs) e grown h = (stands-on s u fs more ls top steps x g e grown h.0, goals-on s u fs more ls top steps xs gs e grown h.1)
 goals-on s u fs more ls top steps [] (g ∷ gs) e grown h = absurd h
 goals-on s u fs more ls top steps (x ∷ xs) [] e grown h = absurd h
+
+-- the waiting goals stay
+cells-there : (s u : state.Seen) (rs : List Ref) → IsGrown s u → Each (λ r. r.0 < length s.heap.sorts) rs → Each (λ r. r.0 < length u.heap.sorts) rs
+cells-there s u [] g h = tt
+cells-there s u (r ∷ rs) g h = (there-later s u r.0 g h.0, cells-there s u rs g h.1)
+
+pub there-on : (n : ℕ) (s u : state.Seen) (cs : List Parked) → IsGrown s u → Each (IsThere n s) cs → Each (IsThere n u) cs
+there-on n s u [] g h = tt
+there-on n s u (c ∷ cs) g h = (record { name = h.0.name; args = cells-there s u c.args g h.0.args }, there-on n s u cs g h.1)
+
+pub waiting-on : (s : Seen) (u : state.Seen) (fs : List (List ℕ)) (ls : List Link) (top steps : ℕ) (ks : List ℕ) (ws : List Waiting) → IsGrown s.state u → AreWaiting s ks ws →
+    AreWaiting (moved s u fs ls top steps) ks ws
+unfolding cells-on
+waiting-on s u fs ls top steps [] [] grown h = tt
+waiting-on s u fs ls top steps (k ∷ ks) (w ∷ ws) grown h = (
+  record {
+    number = h.0.number;
+    call = h.0.call;
+    at = h.0.at;
+    is = cells-on s u fs ls top steps h.0.call.pred h.0.call.call.0 w.goal grown h.0.is;
+    cells = parked-later (asked s).world.arguments s.state u grown h.0.call h.0.is.args h.0.cells;
+  },
+  waiting-on s u fs ls top steps ks ws grown h.1,
+)
+waiting-on s u fs ls top steps [] (w ∷ ws) grown h = absurd h
+waiting-on s u fs ls top steps (k ∷ ks) [] grown h = absurd h
 
 -- the frame of the query stays
 pub asked-on : (s : Seen) (u : state.Seen) (fs more : List (List ℕ)) (ls : List Link) (top steps : ℕ) → fs ≡ s.frames ++ more → IsGrown s.state u → HasAsked s → HasAsked (moved s u fs ls top steps)
@@ -76,6 +133,31 @@ goals-append s [] ys [] hs h k = k
 goals-append s (x ∷ xs) ys (g ∷ gs) hs h k = (h.0, goals-append s xs ys gs hs h.1 k)
 goals-append s [] ys (g ∷ gs) hs h k = absurd h
 goals-append s (x ∷ xs) ys [] hs h k = absurd h
+
+-- a goal that stands in the text
+abbrev pub IsText : Pending → Type 0
+IsText (pending.Asked place) = Unit {0}
+IsText (pending.Body clause place frame) = Unit {0}
+IsText (pending.Called pred call) = ⊥
+
+pub is-text : (x : Pending) → ((pred : ℕ) (call : Ref) → x ≡ pending.Called pred call → ⊥) → IsText x
+is-text (pending.Asked place) h = tt
+is-text (pending.Body clause place frame) h = tt
+is-text (pending.Called pred call) h = h pred call refl
+
+pub in-text : (s : Seen) (x : Pending) (g : Goal) → IsText x → StandsFor s x g → StandsInText s x g
+in-text s (pending.Asked place) g i h = h
+in-text s (pending.Body clause place frame) g i h = h
+in-text s (pending.Called pred call) g i h = absurd i
+
+-- an equation stands there
+pub equal-text : (s : Seen) (x : Pending) (l r : Tree) → StandsFor s x (goal.Equal l r) → IsText x
+equal-text s (pending.Asked place) l r h = tt
+equal-text s (pending.Body clause place frame) l r h = tt
+equal-text s (pending.Called pred call) l r h = let e = h.is in absurd (cc)
+
+pub in-cells : (s : Seen) (x : Pending) (g : Goal) (pred : ℕ) (call : Ref) → x ≡ pending.Called pred call → StandsFor s x g → StandsInCells s pred call.0 g
+in-cells s x g pred call e h = subst (λ (y : Pending). StandsFor s y g) e h
 
 -- the first goal, and the others
 pub goals-first : (s : Seen) (x : Pending) (xs : List Pending) (gs : List Goal) → AreGoals s (x ∷ xs) gs → (g : Goal) × (rest : List Goal) × (gs ≡ g ∷ rest) × StandsFor s x g × AreGoals s xs rest
@@ -146,46 +228,28 @@ variables-more s u ss zs cells grown made placed h = record {
 
 -- ---- after an addition
 
-parts-none : (P : Waiting → Type 0) (ws : List Waiting) → ws ≡ [] → Parts P ws [] []
-parts-none P ws e = subst (λ x. Parts P x [] []) (sym e) none
-
--- where no goal waits, none wakes
-wakes-none : (p : Program) (b : Branch) → b.waiting ≡ [] → Woken p b b
-wakes-none p b e = record {
-  ready = [];
-  rest = [];
-  parts = parts-none (λ w. Ready p b.items w.goal) b.waiting e;
-  is = λ i. record b { waiting = e i };
-}
-
 pub addition-goes : (s : Seen) (b : Branch) (u : state.Seen) (fs : List (List ℕ)) (ls : List Link) (list steps : ℕ) (x : Item) (zs : List Sort) (gs : List Goal) →
     IsTheBranch s b → Adds (asked s).world s.state u (bools zs) x → HasVariables u (b.sorts ++ zs) →
     AreGoals (moved s u fs ls list steps) (goals_at ls list) gs → HasAsked (moved s u fs ls list steps) → list ≤ length ls → steps ≡ s.steps + 1 →
-    GoesOn (asked s) (moved s u fs ls list steps) (extended b gs (x ∷ []) zs)
-unfolding IsBranch
-addition-goes s b u fs ls list steps x zs gs h adds vars goals first inside st =
-    let c = extended b gs (x ∷ []) zs in
-    record {
-      solvable = adds.solvable b.items h.vals;
-      woken = c;
-      wakes = wakes-none (asked s) c h.waiting;
-      is = record {
-        state = adds.state;
-        fits = adds.fits;
-        constants = adds.stays.constants ∙ h.constants;
-        drawn = adds.stays.drawn ∙ (let d = h.drawn in let e = bools-append b.sorts zs in omega arith);
-        variables = vars;
-        vals = adds.vals b.items h.vals;
-        solvable = adds.solvable b.items h.vals;
-        goals = goals;
-        top = inside;
-        asked = first;
-        waiting = h.waiting;
-        next = h.next;
-        steps = (let d = h.steps in omega (arith, st));
-        runnable = h.runnable;
-      };
-    }
+    IsTheBranch (moved s u fs ls list steps) (extended b gs (x ∷ []) zs)
+addition-goes s b u fs ls list steps x zs gs h adds vars goals first inside st = record {
+  state = adds.state;
+  fits = adds.fits;
+  constants = adds.stays.constants ∙ h.constants;
+  drawn = adds.stays.drawn ∙ (let d = h.drawn in let e = bools-append b.sorts zs in omega arith);
+  variables = vars;
+  vals = adds.vals b.items h.vals;
+  solvable = adds.solvable b.items h.vals;
+  goals = goals;
+  top = inside;
+  asked = first;
+  waiting = waiting-on s u fs ls list steps (wake.waiting s.waits) b.waiting adds.grown h.waiting;
+  next = h.next;
+  parked = h.parked;
+  there = there-on (length s.program.names) s.state u s.parked adds.grown h.there;
+  steps = (let d = h.steps in omega (arith, st));
+  runnable = h.runnable;
+}
 
 -- the same branch without its first goal, over cells that were added
 pub behind-stands : (s : Seen) (b : Branch) (u : state.Seen) (ls : List Link) (list : ℕ) (rest : List Goal) →
@@ -203,8 +267,10 @@ behind-stands s b u ls list rest h is grown made fits ec ed vals goals inside = 
   goals = goals-on s u s.frames [] ls list s.steps (goals_at ls list) rest (sym (append-nil s.frames)) grown goals;
   top = inside;
   asked = asked-on s u s.frames [] ls list s.steps (sym (append-nil s.frames)) grown h.asked;
-  waiting = h.waiting;
+  waiting = waiting-on s u s.frames ls list s.steps (wake.waiting s.waits) b.waiting grown h.waiting;
   next = h.next;
+  parked = h.parked;
+  there = there-on (length s.program.names) s.state u s.parked grown h.there;
   steps = h.steps;
   runnable = h.runnable;
 }

@@ -8,4 +8,7 @@ mod Looks
 mod Calls
 mod Resolving
 mod Showing
+mod Work
+mod Fronts
+mod Parking
 pub mod Laws

@@ -10,6 +10,9 @@ use Rattle.cb_model.specs.Derivation.{Branch}
 use Rattle.cb_sorts.specs.Source.{Source}
 use Rattle.cb_sorts.specs.Asked.{Asked}
 use Rattle.cb_goals.specs.declared.Link.{Link}
+use Rattle.cb_wake.specs.Waits.{Waits}
+use Rattle.cb_wake.specs.Moments as wakes
+use Rattle.cb_ready.specs.Parked.{Parked}
 use Rattle.cb_unify.specs.State as state
 use Rattle.cb_unify.specs.State.{IsState}
 use Rattle.cb_unify.specs.Moments as moments
@@ -20,13 +23,14 @@ use Rattle.cb_branch.proofs.Methods.{seen}
 
 -- ---- moments
 
-module _ (now : Seen) (p : Source) (q : Asked) (u : state.Seen) (fs : List (List ℕ)) (ls : List Link) (top steps : ℕ) (v : seen p q u fs ls top steps ≡ now) where
-  pub mark-is : (m : moments.Moment) (k l : ℕ) → m ≡ moments.moment_of u → k ≡ length fs → l ≡ length ls → record { state = m; frames = k; links = l; top = top; steps = steps } ≡ moment_of now
+module _ (now : Seen) (p : Source) (q : Asked) (u : state.Seen) (fs : List (List ℕ)) (ls : List Link) (top steps : ℕ) (ws : Waits) (pk : List Parked) (v : seen p q u fs ls top steps ws pk ≡ now) where
+  pub mark-is : (m : moments.Moment) (k l n : ℕ) (w : wakes.Moment) → m ≡ moments.moment_of u → k ≡ length fs → l ≡ length ls → w ≡ wakes.moment_of ws → n ≡ length pk →
+      record { state = m; frames = k; links = l; top = top; steps = steps; waits = w; parked = n } ≡ moment_of now
   unfolding moment_of
-  mark-is m k l e f g = (λ i. record { state = e i; frames = f i; links = g i; top = top; steps = steps }) ∙ ap (λ (o : Seen). moment_of o) v
+  mark-is m k l n w e f g h j = (λ i. record { state = e i; frames = f i; links = g i; top = top; steps = steps; waits = h i; parked = j i }) ∙ ap (λ (o : Seen). moment_of o) v
 
   -- what going back asks of its parts
-  pub undo-moment : (to m : Moment) → m ≡ to → (s : Seen) (b : Branch) → IsBranch s b → to ≡ moment_of s → Keeps s now → moments.IsMoment m.state u × (m.links ≤ length ls)
+  pub undo-moment : (to m : Moment) → m ≡ to → (s : Seen) (b : Branch) → IsBranch s b → to ≡ moment_of s → Keeps s now → moments.IsMoment m.state u × (m.links ≤ length ls) × wakes.IsMoment m.waits ws
   unfolding IsBranch Keeps moment_of
   undo-moment to m me s b is e k =
       let em = me ∙ e in
@@ -34,8 +38,11 @@ module _ (now : Seen) (p : Source) (q : Asked) (u : state.Seen) (fs : List (List
       let el = ap (λ (x : Moment). x.links) em in
       let lk = ap length k.links.1 in
       let la = length-append s.links k.links.0 in
-      let lv = ap (λ (x : Seen). length x.links) v in
-      (subst (λ (x : Seen). moments.IsMoment m.state x.state) (sym v) (k.state.moments m.state (subst (λ (x : moments.Moment). moments.IsMoment x s.state) (sym es) (moment-now s.state is.state))), omega arith)
+      let lv = ap (λ (x : Seen). length x.links) v in (
+        subst (λ (x : Seen). moments.IsMoment m.state x.state) (sym v) (k.state.moments m.state (subst (λ (x : moments.Moment). moments.IsMoment x s.state) (sym es) (moment-now s.state is.state))),
+        omega arith,
+        subst (λ (x : Seen). wakes.IsMoment m.waits x.waits) (sym v) (k.waits.moments m.waits (subst (λ (x : wakes.Moment). wakes.IsMoment x s.waits) (sym (ap (λ (x : Moment). x.waits) em)) (record { parked = omega arith; taken = omega arith }))),
+      )
 
   pub undo-state : (s : Seen) (b : Branch) → IsBranch s b → Keeps s now → IsState u
   unfolding IsBranch Keeps
@@ -97,7 +104,7 @@ module _ (s : Seen) (b : Branch) (is : IsBranch s b) where
 
 -- ---- the program and the query
 
-module _ (now : Seen) (p : Source) (q : Asked) (u : state.Seen) (fs : List (List ℕ)) (ls : List Link) (top steps : ℕ) (v : seen p q u fs ls top steps ≡ now) where
+module _ (now : Seen) (p : Source) (q : Asked) (u : state.Seen) (fs : List (List ℕ)) (ls : List Link) (top steps : ℕ) (ws : Waits) (pk : List Parked) (v : seen p q u fs ls top steps ws pk ≡ now) where
   pub query-count : (k m : ℕ) (zs : List Sort) → k ≡ length p.declared.constants → m ≡ bools zs → zs ≡ q.sorts → k + m ≡ (program_of now).constants + bools (query_of now).sorts
   unfolding program_of query_of
   query-count k m zs e f g =

@@ -7,6 +7,8 @@ use Rattle.cb_model.specs.Derivation.{Branch}
 use Rattle.cb_sorts.specs.Source.{Source}
 use Rattle.cb_sorts.specs.Asked.{Asked}
 use Rattle.cb_goals.specs.declared.Link.{Link}
+use Rattle.cb_wake.specs.Waits.{Waits}
+use Rattle.cb_ready.specs.Parked.{Parked}
 use Rattle.cb_unify.specs.State as state
 use Rattle.cb_items.proofs.Lists.{got-within}
 use Rattle.cb_branch.specs.Running.{IsBranch, IsPrinted, Seen}
@@ -14,9 +16,9 @@ use Rattle.cb_branch.proofs.Methods.{seen}
 use Rattle.cb_branch.proofs.Calls.{frame-here, got-cells}
 use Rattle.cb_branch.proofs.Looks.{first-frame, printed-is, printed-there}
 
-module _ (now : Seen) (p : Source) (q : Asked) (u : state.Seen) (fs : List (List ℕ)) (ls : List Link) (top steps : ℕ) (v : seen p q u fs ls top steps ≡ now) (b : Branch) (is : IsBranch now b) where
+module _ (now : Seen) (p : Source) (q : Asked) (u : state.Seen) (fs : List (List ℕ)) (ls : List Link) (top steps : ℕ) (ws : Waits) (pk : List Parked) (v : seen p q u fs ls top steps ws pk ≡ now) (b : Branch) (is : IsBranch now b) where
   pub frame-inside : 0 < length fs
-  frame-inside = let f = first-frame now b is in frame-here now p q u fs ls top steps v 0 (got-within now.frames 0 f.0 f.1)
+  frame-inside = let f = first-frame now b is in frame-here now p q u fs ls top steps ws pk v 0 (got-within now.frames 0 f.0 f.1)
 
   module _ (place number : ℕ) (name : Text) (cells : List ℕ) (e : Some (number, name) ≡ slice_get (printed_from 0 q.variables) place) (g : cells ≡ get_or fs 0 cells) where
     printed-now : slice_get (printed_from 0 now.query.variables) place ≡ Some (number, name)

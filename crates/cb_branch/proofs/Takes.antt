@@ -17,10 +17,12 @@ use Rattle.cb_model.specs.Derivation.{Branch, extended, head_item, resolved}
 use Rattle.cb_goals.specs.declared.Link.{Link}
 use Rattle.cb_goals.specs.declared.Pending.{Pending}
 use Rattle.cb_goals.specs.Chain.{body_goals, goals_at}
+use Rattle.cb_heap.specs.declared.Ref.{Ref}
+use Rattle.cb_goals.specs.declared.Pending.TheVariants as pending
 use Rattle.cb_unify.specs.State as state
 use Rattle.cb_unify.specs.State.{FitsTable, IsState}
 use Rattle.cb_branch.specs.declared.First.TheVariants as first
-use Rattle.cb_branch.specs.Running.{AreGoals, GoesOn, IsAt, IsBranch, IsFirst, IsTheBranch, Place, Seen, StandsFor, behind}
+use Rattle.cb_branch.specs.Running.{AreGoals, IsAt, IsBranch, IsFirst, IsTheBranch, Place, Seen, StandsFor, StandsInCells, StandsInText, behind}
 use Rattle.cb_items.specs.Shifted.{AreShifted, IsShifted, IsShiftedGoal, shifted}
 use Rattle.cb_items.specs.Standing.{IsFrame, Stands}
 use Rattle.cb_items.proofs.Lists.{append-nil, got-back, some-one}
@@ -28,7 +30,7 @@ use Rattle.cb_items.proofs.Bridges.{built-stands, extended-items, made-there}
 use Rattle.cb_branch.specs.Scope.{IsClauseFor, IsGoalFor, IsTreeFor}
 use Rattle.cb_branch.specs.Terms.{Adds, ForEquation, ForHead, IsBuildable, IsHead, IsRenamed, Makes, NoItem}
 use Rattle.cb_branch.proofs.Cells.{sort-there}
-use Rattle.cb_branch.proofs.Branches.{addition-goes, asked, asked-on, behind-stands, body-stands, goals-append, goals-first, goals-none, goals-on, moved, variables-more, variables-same}
+use Rattle.cb_branch.proofs.Branches.{IsText, addition-goes, asked, asked-on, equal-text, in-cells, in-text, behind-stands, body-stands, goals-append, goals-first, goals-none, goals-on, moved, variables-more, variables-same}
 
 -- ---- kinds of goals
 
@@ -81,30 +83,38 @@ module _ (s : Seen) (b : Branch) (is : IsBranch s b) where
   first-nothing e = goals-none s b.goals (subst (λ (ys : List Pending). AreGoals s ys b.goals) e open-branch.goals)
 
   module _ (x : Pending) (xs : List Pending) (e : goals_at s.links s.top ≡ x ∷ xs) where
-    pub first-place : (w : Place) × IsAt s x w
-    first-place = let t = taken s b x xs open-branch e in (t.3.place, t.3.is)
+    pub first-called : (pred : ℕ) (call : Ref) → x ≡ pending.Called pred call → IsFirst (first.Call pred) b.goals
+    first-called pred call f = let t = taken s b x xs open-branch e in let c = in-cells s x t.0 pred call f t.3 in (c.args, t.1, t.2 ∙ ap (λ (g : Goal). g ∷ t.1) c.is)
 
-    module _ (g : Goal) (wr : (w : Place) → IsAt s x w → w.goal ≡ g) where
-      first-shifted : (k : ℕ) × (g' : Goal) × (rest : List Goal) × (b.goals ≡ g' ∷ rest) × IsShiftedGoal k g g' × IsGoalFor (asked s) (length s.program.names) (taken s b x xs open-branch e).3.place.sorts g
-      first-shifted =
-          let t = taken s b x xs open-branch e in
-          let p = wr t.3.place t.3.is in
-          (t.3.base, t.0, t.1, t.2, subst (λ (y : Goal). IsShiftedGoal t.3.base y t.0) p t.3.shifted, subst (λ (y : Goal). IsGoalFor (asked s) (length s.program.names) t.3.place.sorts y) p t.3.good)
+    module _ (text : IsText x) where
+      first-text : StandsInText s x (taken s b x xs open-branch e).0
+      first-text = let t = taken s b x xs open-branch e in in-text s x t.0 text t.3
 
-    pub first-true : ((w : Place) → IsAt s x w → w.goal ≡ goal.True) → IsFirst first.True b.goals
-    first-true wr = let t = first-shifted goal.True wr in (t.2, t.3 ∙ ap (λ (g : Goal). g ∷ t.2) (kind-true t.0 t.1 t.4))
+      pub first-place : (w : Place) × IsAt s x w
+      first-place = (first-text.place, first-text.is)
 
-    pub first-fail : ((w : Place) → IsAt s x w → w.goal ≡ goal.Fail) → IsFirst first.Fail b.goals
-    first-fail wr = let t = first-shifted goal.Fail wr in (t.2, t.3 ∙ ap (λ (g : Goal). g ∷ t.2) (kind-fail t.0 t.1 t.4))
+      module _ (g : Goal) (wr : (w : Place) → IsAt s x w → w.goal ≡ g) where
+        first-shifted : (k : ℕ) × (g' : Goal) × (rest : List Goal) × (b.goals ≡ g' ∷ rest) × IsShiftedGoal k g g' × IsGoalFor (asked s) (length s.program.names) first-text.place.sorts g
+        first-shifted =
+            let t = taken s b x xs open-branch e in
+            let f = first-text in
+            let p = wr f.place f.is in
+            (f.base, t.0, t.1, t.2, subst (λ (y : Goal). IsShiftedGoal f.base y t.0) p f.shifted, subst (λ (y : Goal). IsGoalFor (asked s) (length s.program.names) f.place.sorts y) p f.good)
 
-    pub first-equal : (u v : Tree) → ((w : Place) → IsAt s x w → w.goal ≡ goal.Equal u v) → IsFirst first.Equal b.goals
-    first-equal u v wr = let t = first-shifted (goal.Equal u v) wr in let k = kind-equal t.0 u v t.1 t.4 in (k.0, k.1, t.2, t.3 ∙ ap (λ (g : Goal). g ∷ t.2) k.2)
+      pub first-true : ((w : Place) → IsAt s x w → w.goal ≡ goal.True) → IsFirst first.True b.goals
+      first-true wr = let t = first-shifted goal.True wr in (t.2, t.3 ∙ ap (λ (g : Goal). g ∷ t.2) (kind-true t.0 t.1 t.4))
 
-    pub first-call : (n : ℕ) (us : List Tree) → ((w : Place) → IsAt s x w → w.goal ≡ goal.Call n us) → IsFirst (first.Call n) b.goals
-    first-call n us wr = let t = first-shifted (goal.Call n us) wr in let k = kind-call t.0 n us t.1 t.4 in (k.0, t.2, t.3 ∙ ap (λ (g : Goal). g ∷ t.2) k.1)
+      pub first-fail : ((w : Place) → IsAt s x w → w.goal ≡ goal.Fail) → IsFirst first.Fail b.goals
+      first-fail wr = let t = first-shifted goal.Fail wr in (t.2, t.3 ∙ ap (λ (g : Goal). g ∷ t.2) (kind-fail t.0 t.1 t.4))
 
-    pub first-circuit : (m : ℕ) (u v : Tree) → ((w : Place) → IsAt s x w → w.goal ≡ goal.Circuit m u v) → ⊥
-    first-circuit m u v wr = (first-shifted (goal.Circuit m u v) wr).5
+      pub first-equal : (u v : Tree) → ((w : Place) → IsAt s x w → w.goal ≡ goal.Equal u v) → IsFirst first.Equal b.goals
+      first-equal u v wr = let t = first-shifted (goal.Equal u v) wr in let k = kind-equal t.0 u v t.1 t.4 in (k.0, k.1, t.2, t.3 ∙ ap (λ (g : Goal). g ∷ t.2) k.2)
+
+      pub first-call : (n : ℕ) (us : List Tree) → ((w : Place) → IsAt s x w → w.goal ≡ goal.Call n us) → IsFirst (first.Call n) b.goals
+      first-call n us wr = let t = first-shifted (goal.Call n us) wr in let k = kind-call t.0 n us t.1 t.4 in (k.0, t.2, t.3 ∙ ap (λ (g : Goal). g ∷ t.2) k.1)
+
+      pub first-circuit : (m : ℕ) (u v : Tree) → ((w : Place) → IsAt s x w → w.goal ≡ goal.Circuit m u v) → ⊥
+      first-circuit m u v wr = (first-shifted (goal.Circuit m u v) wr).5
 
 -- ---- an equation
 
@@ -129,8 +139,8 @@ buildable-of s b zs z cells base u h f t = record {
 
 module _ (s : Seen) (b : Branch) (l r : Tree) (rest : List Goal) (x : Pending) (list : ℕ) (u v : Tree) (cells : List ℕ) (h : IsTheBranch s b) (e : b.goals ≡ goal.Equal l r ∷ rest)
     (at : goals_at s.links s.top ≡ x ∷ goals_at s.links list) (wr : (w : Place) → IsAt s x w → (w.goal ≡ goal.Equal u v) × (slice_get s.frames w.frame ≡ Some cells)) where
-  pub equation-at : StandsFor s x (goal.Equal l r) × AreGoals s (goals_at s.links list) rest
-  equation-at = taken-as s b (goal.Equal l r) rest x (goals_at s.links list) h e at
+  pub equation-at : StandsInText s x (goal.Equal l r) × AreGoals s (goals_at s.links list) rest
+  equation-at = let t = taken-as s b (goal.Equal l r) rest x (goals_at s.links list) h e at in (in-text s x (goal.Equal l r) (equal-text s x l r t.0) t.0, t.1)
 
   pub equation-frame : IsFrame s.state equation-at.0.base equation-at.0.place.sorts cells
   equation-frame =
@@ -153,7 +163,7 @@ module _ (s : Seen) (b : Branch) (l r : Tree) (rest : List Goal) (x : Pending) (
   equation-of P f = f (asked s).world equation-at.0.place.sorts equation-trees.0 equation-at.0.base l r equation-left equation-right equation-frame equation-trees.3 equation-trees.4
 
   pub equation-goes : (t : state.Seen) → list ≤ length s.links → ForEquation s.state cells u v (λ w i. Adds w s.state t 0 i × (t.made ≡ s.state.made)) →
-      GoesOn (asked s) (moved s t s.frames s.links list (s.steps + 1)) (extended b rest (Pair l r ∷ []) [])
+      IsTheBranch (moved s t s.frames s.links list (s.steps + 1)) (extended b rest (Pair l r ∷ []) [])
   equation-goes t inside f =
       let a = equation-of (λ w i. Adds w s.state t 0 i × (t.made ≡ s.state.made)) f in
       addition-goes s b t s.frames s.links list (s.steps + 1) (Pair l r) [] rest h a.0 (variables-same s.state t b.sorts a.0.grown a.1 h.variables)
@@ -170,7 +180,7 @@ call-parts : (p : Program) (n k : ℕ) (zs : List Sort) (g : Goal) (m : ℕ) (us
 call-parts p n k zs g m us pred args e h i =
     let a = subst (λ (x : Goal). IsGoalFor p n zs x) e h in
     let c = subst (λ (x : Goal). IsShiftedGoal k x (goal.Call pred args)) e i in
-    (c.0, a.3, c.1)
+    (c.0, a.2, c.1)
 
 args-shifted : (a : Bits) (v : Valuation) (k : ℕ) (us args : List Tree) → AreShifted k us args → map (tree_value a v) args ≡ map (tree_value a (shifted k v)) us
 args-shifted a v k [] [] h = refl
@@ -184,9 +194,9 @@ call-shifted k m pred us args e h a v =
     ∙ sym (value-node a (shifted k v) m us)
 
 module _ (s : Seen) (b : Branch) (pred : ℕ) (args : List Tree) (rest : List Goal) (x : Pending) (list m : ℕ) (us : List Tree) (cells : List ℕ) (h : IsTheBranch s b) (e : b.goals ≡ goal.Call pred args ∷ rest)
-    (at : goals_at s.links s.top ≡ x ∷ goals_at s.links list) (wr : (w : Place) → IsAt s x w → (w.goal ≡ goal.Call m us) × (slice_get s.frames w.frame ≡ Some cells)) where
-  pub call-at : StandsFor s x (goal.Call pred args) × AreGoals s (goals_at s.links list) rest
-  call-at = taken-as s b (goal.Call pred args) rest x (goals_at s.links list) h e at
+    (at : goals_at s.links s.top ≡ x ∷ goals_at s.links list) (wr : (w : Place) → IsAt s x w → (w.goal ≡ goal.Call m us) × (slice_get s.frames w.frame ≡ Some cells)) (text : IsText x) where
+  pub call-at : StandsInText s x (goal.Call pred args) × AreGoals s (goals_at s.links list) rest
+  call-at = let t = taken-as s b (goal.Call pred args) rest x (goals_at s.links list) h e at in (in-text s x (goal.Call pred args) text t.0, t.1)
 
   pub call-frame : IsFrame s.state call-at.0.base call-at.0.place.sorts cells
   call-frame =
@@ -248,7 +258,7 @@ module _ (s : Seen) (b : Branch) (pred : ℕ) (args : List Tree) (clause call : 
   pub clause-goes : (t : state.Seen) (frame : List ℕ) (fs : List (List ℕ)) (ls more : List Link) (list : ℕ) → fs ≡ s.frames ++ frame ∷ [] → list ≤ length ls →
       goals_at ls list ≡ body_goals clause (length s.frames) 0 (length c.body) ++ goals_at s.links s.top →
       ForHead s.state c.sorts c.pred c.head call (λ w i. Adds w s.state t (bools c.sorts) i × IsRenamed s.state t c.sorts frame) →
-      GoesOn (asked s) (moved s t fs ls list (s.steps + 1)) (resolved b pred args c)
+      IsTheBranch (moved s t fs ls list (s.steps + 1)) (resolved b pred args c)
   clause-goes t frame fs ls more list ef inside el f =
       let a = clause-of (λ w i. Adds w s.state t (bools c.sorts) i × IsRenamed s.state t c.sorts frame) f in
       let u = moved s t fs ls list (s.steps + 1) in

@@ -1,17 +1,18 @@
 -- What contracts see of a running branch. The layer above never looks inside these words.
-use Rattle.std.specs.Prelude.{◌≡◌, ◌≢◌, ℕ, zero, suc, ◌+◌, ◌-◌, ◌^◌, ◌<◌, ◌≤◌, List, [], ◌∷◌, ◌++◌, length, Some, slice_get}
+use Rattle.std.specs.Prelude.{◌≡◌, ◌≢◌, ℕ, zero, suc, false, ◌+◌, ◌*◌, ◌-◌, ◌^◌, ◌<◌, ◌≤◌, List, [], ◌∷◌, ◌++◌, length, map, get_or, Some, slice_get}
 use Rattle.cb_model.specs.declared.Sort.{Sort}
 use Rattle.cb_model.specs.declared.Tree.{Tree}
 use Rattle.cb_model.specs.declared.Tree.TheVariants as tree
 use Rattle.cb_model.specs.declared.Goal.{Goal}
 use Rattle.cb_model.specs.declared.Goal.TheVariants as goal
 use Rattle.cb_model.specs.declared.Clause.{Clause}
+use Rattle.cb_model.specs.Bits.{Each}
 use Rattle.cb_model.specs.Outside.{Rose}
 use Rattle.cb_model.specs.Output.{printed_from}
 use Rattle.cb_model.specs.Text.{Text}
 use Rattle.cb_model.specs.Program.{Program, bools}
 use Rattle.cb_model.specs.Equations.{Pair, Refuted, Solvable}
-use Rattle.cb_model.specs.Derivation.{Branch, Query, Woken, extended, resolved}
+use Rattle.cb_model.specs.Derivation.{Branch, Query, Waiting, Woken, extended, is_demon, resolved}
 use Rattle.cb_sorts.specs.Source.{Source}
 use Rattle.cb_sorts.specs.Asked.{Asked}
 use Rattle.cb_sorts.specs.OverFile.{asked_program, asked_query}
@@ -19,9 +20,15 @@ use Rattle.cb_goals.specs.declared.Link.{Link}
 use Rattle.cb_goals.specs.declared.Pending.{Pending}
 use Rattle.cb_goals.specs.declared.Pending.TheVariants as pending
 use Rattle.cb_goals.specs.Chain.{goals_at}
+use Rattle.cb_heap.specs.declared.Ref.{Ref}
 use Rattle.cb_unify.specs.State as state
 use Rattle.cb_unify.specs.State.{IsState, FitsTable, no_state}
 use Rattle.cb_unify.specs.Moments as moments
+use Rattle.cb_wake.specs.Waits as wake
+use Rattle.cb_wake.specs.Waits.{Waits, no_goals}
+use Rattle.cb_wake.specs.Moments as wakes
+use Rattle.cb_ready.specs.Asking.{IsThere}
+use Rattle.cb_ready.specs.Parked.{Parked, IsParked as HasCells}
 use Rattle.cb_branch.specs.declared.First.{First}
 use Rattle.cb_branch.specs.declared.First.TheVariants as first
 use Rattle.cb_items.specs.Standing.{Stands, IsFrame, IsVals, HasVariables}
@@ -29,7 +36,8 @@ use Rattle.cb_items.specs.Shifted.{IsShiftedGoal}
 use Rattle.cb_branch.specs.Scope.{IsGoalFor, IsRunnable}
 
 -- the program and the query, the terms with their variables, the frames of the clauses that were renamed, the lists of
--- goals, the list that the branch goes on with, and the number of equation steps
+-- goals, the list that the branch goes on with, the number of equation steps, and the calls that were parked, by number,
+-- with which of them still wait
 pub record Seen : Type 0 where
   pub program : Source
   pub query : Asked
@@ -38,6 +46,8 @@ pub record Seen : Type 0 where
   pub links : List Link
   pub top : ℕ
   pub steps : ℕ
+  pub waits : Waits
+  pub parked : List Parked
 
 -- a moment, to which the branch can go back
 pub record Moment : Type 0 where
@@ -46,10 +56,20 @@ pub record Moment : Type 0 where
   pub links : ℕ
   pub top : ℕ
   pub steps : ℕ
+  pub waits : wakes.Moment
+  pub parked : ℕ
 
 -- the moment now
 unfoldable pub moment_of : Seen → Moment
-moment_of s = record { state = moments.moment_of s.state; frames = length s.frames; links = length s.links; top = s.top; steps = s.steps }
+moment_of s = record {
+  state = moments.moment_of s.state;
+  frames = length s.frames;
+  links = length s.links;
+  top = s.top;
+  steps = s.steps;
+  waits = wakes.moment_of s.waits;
+  parked = length s.parked;
+}
 
 -- the count of refusals for nodes
 unfoldable pub fulls_of : Seen → ℕ
@@ -87,7 +107,7 @@ IsAt s (pending.Body clause place frame) w =
 IsAt s (pending.Called pred call) w = ⊥
 
 -- what stands in the text is the branch's goal, where its variables are those of the frame
-pub record StandsFor (s : Seen) (x : Pending) (g : Goal) : Type 0 where
+pub record StandsInText (s : Seen) (x : Pending) (g : Goal) : Type 0 where
   pub place : Place
   pub is : IsAt s x place
   pub good : IsGoalFor (asked_program s.program s.query []) (length s.program.names) place.sorts place.goal
@@ -96,6 +116,23 @@ pub record StandsFor (s : Seen) (x : Pending) (g : Goal) : Type 0 where
   pub base : ℕ
   pub placed : IsFrame s.state base place.sorts cells
   pub shifted : IsShiftedGoal base place.goal g
+
+-- The call of this predicate, whose arguments are in the cells behind this one, is the branch's goal. It calls a name of
+-- the program that is no demon's, with as many arguments as the name has.
+pub record StandsInCells (s : Seen) (pred call : ℕ) (g : Goal) : Type 0 where
+  pub args : List Tree
+  pub is : g ≡ goal.Call pred args
+  pub there : call < length s.state.heap.sorts
+  pub stands : Stands (asked_program s.program s.query []).world.arguments s.state call (tree.Node pred args)
+  pub number : length args ≡ length (get_or (asked_program s.program s.query []).world.arguments pred [])
+  pub named : pred < length s.program.names
+  pub plain : is_demon (asked_program s.program s.query []) pred ≡ false
+
+-- it stands for the branch's goal: in the text or in cells
+abbrev pub StandsFor : Seen → Pending → Goal → Type 0
+StandsFor s (pending.Asked place) g = StandsInText s (pending.Asked place) g
+StandsFor s (pending.Body clause place frame) g = StandsInText s (pending.Body clause place frame) g
+StandsFor s (pending.Called pred call) g = StandsInCells s pred call.0 g
 
 -- the same of each, in order
 abbrev pub AreGoals : Seen → List Pending → List Goal → Type 0
@@ -114,6 +151,42 @@ pub record HasAsked (s : Seen) : Type 0 where
   pub at : slice_get s.frames 0 ≡ Some cells
   pub placed : IsFrame s.state 0 s.query.sorts cells
 
+-- ---- its waiting goals
+
+-- the call that was parked under this number is the waiting goal
+pub record IsParked (s : Seen) (k : ℕ) (w : Waiting) : Type 0 where
+  pub number : w.number ≡ k
+  pub call : Parked
+  pub at : slice_get s.parked k ≡ Some call
+  pub is : StandsInCells s call.pred call.call.0 w.goal
+  pub cells : HasCells (asked_program s.program s.query []).world.arguments s.state call is.args
+
+-- the same of each number, in order
+abbrev pub AreWaiting : Seen → List ℕ → List Waiting → Type 0
+AreWaiting s [] [] = Unit {0}
+AreWaiting s (k ∷ ks) (w ∷ ws) = IsParked s k w × AreWaiting s ks ws
+AreWaiting s _ _ = ⊥
+
+-- a call: its predicate, and the cells of its arguments
+abbrev pub call_of : Parked → ℕ × List Ref
+call_of p = (p.pred, p.args)
+
+-- a parked call as a goal of a list
+abbrev pub called : Parked → Pending
+called p = pending.Called p.pred p.call
+
+-- the same of the call that was parked under a number
+abbrev pub pending_at : List Parked → ℕ → Pending
+pending_at ps k = get_or (map called ps) k (pending.Asked 0)
+
+-- the calls that wait, in order of number
+abbrev pub calls_of : Seen → List (ℕ × List Ref)
+calls_of s = map (λ k. get_or (map call_of s.parked) k (0, [])) (wake.waiting s.waits)
+
+-- the k-th waiting goal by number, from 0, has this predicate and these cells of arguments
+abbrev pub IsWaiting : Seen → ℕ → ℕ → List Ref → Type 0
+IsWaiting s k pred args = slice_get (calls_of s) k ≡ Some (pred, args)
+
 -- ---- the branch
 
 -- it is this branch of the derivation
@@ -128,8 +201,10 @@ pub record IsTheBranch (s : Seen) (b : Branch) : Type 0 where
   pub goals : AreGoals s (goals_at s.links s.top) b.goals
   pub top : s.top ≤ length s.links
   pub asked : HasAsked s
-  pub waiting : b.waiting ≡ []
-  pub next : b.next ≡ 0
+  pub waiting : AreWaiting s (wake.waiting s.waits) b.waiting
+  pub next : b.next ≡ length s.waits.still
+  pub parked : length s.parked ≡ length s.waits.still
+  pub there : Each (IsThere (length s.program.names) s.state) s.parked
   pub steps : b.steps ≡ s.steps
   pub runnable : IsRunnable s.program s.query
 
@@ -151,14 +226,21 @@ pub record IsLater (s t : Seen) : Type 0 where
   pub nodes : t.state.store.nodes.budget ≡ s.state.store.nodes.budget
   pub frames : (more : List (List ℕ)) × (t.frames ≡ s.frames ++ more)
   pub links : (more : List Link) × (t.links ≡ s.links ++ more)
+  pub waits : wakes.KeepsMoments s.waits t.waits
+  pub parked : (more : List Parked) × (t.parked ≡ s.parked ++ more)
 
 -- the same, unseen from above
 unfoldable pub Keeps : Seen → Seen → Type 0
 Keeps s t = IsLater s t
 
--- what is left to do without a resolution
+-- how many goals the branch has, the waiting ones among them
+abbrev pub total_of : Seen → ℕ
+total_of s = length (goals_at s.links s.top) + length (wake.waiting s.waits)
+
+-- What is left to do without a resolution: such a step takes a goal away, or lets a goal wait. Waiting goals count with
+-- the others, since they come back.
 unfoldable pub work_of : Seen → ℕ
-work_of s = length (goals_at s.links s.top)
+work_of s = total_of s * (total_of s + 2) + length (goals_at s.links s.top)
 
 -- the nodes are too few for the branch
 unfoldable pub TooFew : ℕ → Branch → Type 0
@@ -173,7 +255,11 @@ pub record WantsNodes (old new : Seen) (b : Branch) : Type 0 where
 
 -- nothing has begun: no variable, no goal
 abbrev pub unbegun : Source → Asked → ℕ → Seen
-unbegun p q nodes = record { program = p; query = q; state = no_state (length p.declared.constants) nodes; frames = []; links = []; top = 0; steps = 0 }
+unbegun p q nodes = record { program = p; query = q; state = no_state (length p.declared.constants) nodes; frames = []; links = []; top = 0; steps = 0; waits = no_goals; parked = [] }
+
+-- what holds of the branch
+abbrev pub OnBranch : Seen → (Branch → Type 0) → Type 0
+OnBranch s P = (b : Branch) → IsBranch s b → P b
 
 -- the branch without its first goal
 abbrev pub behind : Branch → List Goal → Branch
@@ -183,11 +269,34 @@ behind b rest = record b { goals = rest }
 abbrev pub OnGoal : Seen → (Branch → Type 0) → Type 0
 OnGoal s P = (b : Branch) (g : Goal) (rest : List Goal) → IsBranch s b → b.goals ≡ g ∷ rest → P (behind b rest)
 
+-- what holds of the branch and its first goal
+abbrev pub OnFirst : Seen → (Branch → Goal → Type 0) → Type 0
+OnFirst s P = (b : Branch) (g : Goal) (rest : List Goal) → IsBranch s b → b.goals ≡ g ∷ rest → P b g
+
 -- where the first goal is a call: of the branch without it, and of the call
 abbrev pub OnCall : Seen → (Branch → ℕ → List Tree → Type 0) → Type 0
 OnCall s P =
     (b : Branch) (pred : ℕ) (args : List Tree) (rest : List Goal) → IsBranch s b → b.goals ≡ goal.Call pred args ∷ rest →
     P (behind b rest) pred args
+
+-- where the first goal is a call: the branch is the same, and the call's arguments are in the cells behind this one
+abbrev pub IsCelled : Seen → Seen → ℕ → ℕ → Type 0
+IsCelled old new pred call =
+    (b : Branch) (n : ℕ) (args : List Tree) (rest : List Goal) → IsBranch old b → b.goals ≡ goal.Call n args ∷ rest →
+    IsBranch new b × StandsInCells new pred call (goal.Call n args)
+
+-- a branch whose first goal is a call in cells
+pub record StartsInCells (s : Seen) (pred call : ℕ) : Type 0 where
+  pub b : Branch
+  pub is : IsBranch s b
+  pub g : Goal
+  pub rest : List Goal
+  pub goals : b.goals ≡ g ∷ rest
+  pub cells : StandsInCells s pred call g
+
+-- what holds of a branch, and of its first goal, a call in cells
+abbrev pub OnCells : Seen → ℕ → ℕ → (Branch → Goal → Type 0) → Type 0
+OnCells s pred call P = (b : Branch) (g : Goal) (rest : List Goal) → IsBranch s b → b.goals ≡ g ∷ rest → StandsInCells s pred call g → P (behind b rest) g
 
 -- where the first goal is an equation: of the branch with that equation added
 abbrev pub OnEquation : Seen → (Branch → Type 0) → Type 0
@@ -244,6 +353,12 @@ IsFirst (first.Call pred) gs = (args : List Tree) × (rest : List Goal) × (gs �
 -- the addition was tried: the branch goes on where its items are solvable
 pub record GoesOn (p : Program) (new : Seen) (b : Branch) : Type 0 where
   pub solvable : Solvable p.world b.items
+  pub woken : Branch
+  pub wakes : Woken p b woken
+  pub is : IsBranch new woken
+
+-- the waiting goals that are now ready went in front
+pub record Wakes (p : Program) (new : Seen) (b : Branch) : Type 0 where
   pub woken : Branch
   pub wakes : Woken p b woken
   pub is : IsBranch new woken

@@ -1,5 +1,5 @@
 -- What a branch asks of its program and its query: their trees have constants and variables that exist, and fit the sorts
--- of their places; and no goal waits.
+-- of their places; and no goal is a circuit's or calls a demon.
 use Rattle.std.specs.Prelude.{◌≡◌, ℕ, ◌<◌, ◌^◌, true, false, List, [], length, Some, slice_get}
 use Rattle.cb_model.specs.declared.Sort.{Sort}
 use Rattle.cb_model.specs.declared.Sort.TheVariants as sort
@@ -12,10 +12,11 @@ use Rattle.cb_model.specs.Bits.{Each}
 use Rattle.cb_model.specs.Sorted.{tree_fits}
 use Rattle.cb_model.specs.Values.{tree_in_scope}
 use Rattle.cb_model.specs.Program.{Program}
-use Rattle.cb_model.specs.Derivation.{is_demon, words_of}
+use Rattle.cb_model.specs.Derivation.{is_demon}
 use Rattle.cb_sorts.specs.Source.{Source}
 use Rattle.cb_sorts.specs.Asked.{Asked}
 use Rattle.cb_sorts.specs.OverFile.{asked_program}
+use Rattle.cb_ready.specs.Ready.{HasFewWords}
 
 -- a tree over variables of these sorts, in a place of this sort
 pub record IsTreeFor (p : Program) (zs : List Sort) (z : Sort) (x : Tree) : Type 0 where
@@ -23,14 +24,14 @@ pub record IsTreeFor (p : Program) (zs : List Sort) (z : Sort) (x : Tree) : Type
   pub fits : tree_fits p.world.arguments zs z x ≡ true
 
 -- A goal over variables of these sorts, which calls one of the first n names. It is no goal of a circuit, and its name is
--- neither a demon's nor delayed.
+-- no demon's.
 abbrev pub IsGoalFor : Program → ℕ → List Sort → Goal → Type 0
 IsGoalFor p n zs goal.True = Unit {0}
 IsGoalFor p n zs goal.Fail = Unit {0}
 IsGoalFor p n zs (goal.Equal l r) = (z : Sort) × IsTreeFor p zs z l × IsTreeFor p zs z r
 IsGoalFor p n zs (goal.Circuit m ins outs) = ⊥
 IsGoalFor p n zs (goal.Call pred args) =
-    (pred < n) × (is_demon p pred ≡ false) × (words_of p pred ≡ []) × IsTreeFor p zs sort.Term (tree.Node pred args)
+    (pred < n) × (is_demon p pred ≡ false) × IsTreeFor p zs sort.Term (tree.Node pred args)
 
 -- a clause
 pub record IsClauseFor (p : Program) (n : ℕ) (c : Clause) : Type 0 where
@@ -44,3 +45,4 @@ pub record IsRunnable (s : Source) (q : Asked) : Type 0 where
   pub goals : Each (IsGoalFor (asked_program s q []) (length s.names) q.sorts) q.goals
   pub few : length q.goals < 2 ^ 32
   pub variables : length q.variables ≡ length q.sorts
+  pub words : HasFewWords (asked_program s q [])

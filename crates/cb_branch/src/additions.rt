@@ -25,9 +25,9 @@ use std::alloc::AllocError;
 
 // A goal as it stands in the text, and the number of the frame of its variables.
 #[derive(Clone, Copy, Drop)]
-struct Written<'p> {
-    goal: &'p Goal,
-    frame: usize,
+pub(crate) struct Written<'p> {
+    pub(crate) goal: &'p Goal,
+    pub(crate) frame: usize,
 }
 
 impl<'p, 's, 'q> Running<'p, 's, 'q> {
@@ -62,6 +62,9 @@ impl<'p, 's, 'q> Running<'p, 's, 'q> {
         let Some((pending, _)) = self.goals.first(self.top) else {
             return First::Nothing;
         };
+        if let Pending::Called { pred, .. } = pending {
+            return First::Call(pred);
+        }
         let written = self.written(pending);
         match written.goal {
             Goal::True => First::True,
@@ -85,7 +88,7 @@ impl<'p, 's, 'q> Running<'p, 's, 'q> {
         self.top = rest;
     }
 
-    /// Takes the first goal, an equation, away and adds it. `Ok(false)` comes where it has no solution together with
+    /// Takes the first goal, an equation, away and adds it; the waiting goals that are then ready go in front. `Ok(false)` comes where it has no solution together with
     /// those before; then, and after a refusal, the branch is of use only to go back.
     pub fn equate(&mut self) -> Result<bool, Stop>
         requires first { (l r : Tree) × Starts self.old (goal.Equal l r) }
@@ -108,14 +111,17 @@ impl<'p, 's, 'q> Running<'p, 's, 'q> {
             Ok(true) => {
                 self.top = rest;
                 self.steps += 1;
-                Ok(true)
+                match self.wake() {
+                    Ok(()) => Ok(true),
+                    Err(stop) => Err(stop),
+                }
             }
             Ok(false) => Ok(false),
             Err(stop) => Err(stop),
         }
     }
 
-    /// Takes the first goal, a call, away and puts its arguments into cells.
+    /// Takes the first goal, a call, away and puts its arguments into cells, where they aren't there yet.
     pub fn call(&mut self) -> Result<Call, Stop>
         requires first { (pred : ℕ) × (args : List Tree) × Starts self.old (goal.Call pred args) }
         ensures branch { IfOk result (λ c. OnCall self.old (λ b k xs. IsBranch self.new b × IsCall self.new c.0 k xs)) }
@@ -125,6 +131,10 @@ impl<'p, 's, 'q> Running<'p, 's, 'q> {
         let Some((pending, rest)) = self.goals.first(self.top) else {
             unreachable!()
         };
+        if let Pending::Called { call, .. } = pending {
+            self.top = rest;
+            return Ok(Call(call.0));
+        }
         let written = self.written(pending);
         let Goal::Call(pred, args) = written.goal else {
             unreachable!()
@@ -139,8 +149,8 @@ impl<'p, 's, 'q> Running<'p, 's, 'q> {
         }
     }
 
-    /// Renames a clause apart, adds that its head is the call, and puts its body in front of the goals. `Ok(false)` comes
-    /// where head and call have no solution together with the equations before; then, and after a refusal, the branch is
+    /// Renames a clause apart, adds that its head is the call, and puts its body in front of the goals, and in front of it
+    /// the waiting goals that are then ready. `Ok(false)` comes where head and call have no solution together with the equations before; then, and after a refusal, the branch is
     /// of use only to go back.
     pub fn resolve(&mut self, clause: u32, call: Call) -> Result<bool, Stop>
         requires { IsResolvable self.old clause call.0 }
@@ -173,7 +183,10 @@ impl<'p, 's, 'q> Running<'p, 's, 'q> {
             Ok(list) => {
                 self.top = list;
                 self.steps += 1;
-                Ok(true)
+                match self.wake() {
+                    Ok(()) => Ok(true),
+                    Err(stop) => Err(stop),
+                }
             }
             Err(_) => Err(Stop::Memory),
         }
@@ -196,7 +209,7 @@ impl<'p, 's, 'q> Running<'p, 's, 'q> {
     }
 
     // A goal as it stands in the text.
-    fn written(&self, pending: Pending) -> Written<'p>
+    pub(crate) fn written(&self, pending: Pending) -> Written<'p>
         requires { (w : Place) × IsAt self.now pending w }
         ensures { (w : Place) → IsAt self.now pending w → (result.goal.now ≡ w.goal) × (result.frame ≡ w.frame) }
     {

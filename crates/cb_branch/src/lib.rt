@@ -17,14 +17,18 @@ ghost use Rattle.cb_branch.specs.Accepted.{AcceptedCanRun};
 ghost use Rattle.cb_branch.specs.Laws.{BranchHasItsValues, LoanKeepsTheBranch};
 
 mod additions;
+mod delays;
 mod terms;
+mod waking;
 
 use cb_dd::Stop;
 use cb_goals::{Goals, Pending};
 use cb_heap::Ref;
 use cb_model::{Goal, Sort};
+use cb_ready::Parked;
 use cb_sorts::{Program, Query};
 use cb_unify::{Frame, State, StateMark};
+use cb_wake::{Waiting, WakeMark};
 use std::alloc::{AllocError, Global};
 use std::marker::Model;
 
@@ -59,6 +63,9 @@ pub struct Running<'p, 's, 'q> {
     // The list of goals that it goes on with.
     top: usize,
     steps: u32,
+    // The calls that were parked, by number, and which of them still wait.
+    waits: Waiting,
+    parked: Vec<Parked>,
 }
 
 impl<'p, 's, 'q> Model for Running<'p, 's, 'q> {
@@ -71,7 +78,7 @@ impl<'p, 's, 'q> Model for Running<'p, 's, 'q> {
 
     ghost coded = { Prim.hlevel (codes, clause.the_row.coded, goal.the_row.coded) };
 
-    ghost view = { λ r. record { program = r.program.now; query = r.query.now; state = r.state; frames = r.frames.items; links = r.goals; top = r.top; steps = r.steps } };
+    ghost view = { λ r. record { program = r.program.now; query = r.query.now; state = r.state; frames = r.frames.items; links = r.goals; top = r.top; steps = r.steps; waits = r.waits; parked = r.parked.items } };
 }
 
 /// A moment of a branch, to which `undo` goes back.
@@ -82,6 +89,8 @@ pub struct Mark {
     links: usize,
     top: usize,
     steps: u32,
+    waits: WakeMark,
+    parked: usize,
 }
 
 impl Model for Mark {
@@ -89,9 +98,9 @@ impl Model for Mark {
 
     ghost Value = { Moment };
 
-    ghost view = { λ m. record { state = m.state; frames = m.frames; links = m.links; top = m.top; steps = m.steps } };
+    ghost view = { λ m. record { state = m.state; frames = m.frames; links = m.links; top = m.top; steps = m.steps; waits = m.waits; parked = m.parked } };
 
-    ghost inverse = { λ m. record { state = m.state; frames = m.frames; links = m.links; top = m.top; steps = m.steps } };
+    ghost inverse = { λ m. record { state = m.state; frames = m.frames; links = m.links; top = m.top; steps = m.steps; waits = m.waits; parked = m.parked } };
 }
 
 impl<'p, 's, 'q> Running<'p, 's, 'q> {
@@ -113,6 +122,8 @@ impl<'p, 's, 'q> Running<'p, 's, 'q> {
             goals: Goals::new(alloc),
             top: 0,
             steps: 0,
+            waits: Waiting::new(alloc),
+            parked: Vec::new(alloc),
         })
     }
 
@@ -127,6 +138,8 @@ impl<'p, 's, 'q> Running<'p, 's, 'q> {
             links: self.goals.mark(),
             top: self.top,
             steps: self.steps,
+            waits: self.waits.mark(),
+            parked: self.parked.len(),
         }
     }
 
@@ -140,6 +153,8 @@ impl<'p, 's, 'q> Running<'p, 's, 'q> {
         self.goals.undo(to.links);
         self.top = to.top;
         self.steps = to.steps;
+        self.waits.undo(to.waits);
+        self.parked.truncate(to.parked);
     }
 
     /// How many equation steps the branch has taken, at most 1,000,000.
@@ -195,7 +210,7 @@ pub fn branch_has_its_values()
     ensures { BranchHasItsValues }
 {}
 
-/// The program of an accepted file and an accepted query over it can be run, where no goal waits.
+/// The program of an accepted file and an accepted query over it can be run, where no goal is a circuit's or a demon's.
 pub fn accepted_can_run()
     ensures { AcceptedCanRun }
 {}

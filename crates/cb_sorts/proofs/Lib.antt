@@ -6,4 +6,4 @@ pub mod OverFile
 pub mod Declared
 pub mod Called
 pub mod Accepted
-pub mod Waits
+pub mod Commits

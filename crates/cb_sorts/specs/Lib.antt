@@ -3,4 +3,4 @@ pub mod Asked
 pub mod OverFile
 pub mod Called
 pub mod Accepted
-pub mod Waits
+pub mod Commits

@@ -4,7 +4,7 @@
 ghost use Rattle.cb_sorts.specs.OverFile.{QueriesOverFile};
 ghost use Rattle.cb_sorts.specs.Called.{ClausesCallNames, QueriesCallNames};
 ghost use Rattle.cb_sorts.specs.Accepted.{AcceptedAreSound};
-ghost use Rattle.cb_sorts.specs.Waits.{PlainFilesNeverWait};
+ghost use Rattle.cb_sorts.specs.Commits.{PlainFilesNeverCommit};
 
 mod asking;
 mod chained;
@@ -42,8 +42,8 @@ pub fn accepted_are_sound()
     ensures { AcceptedAreSound }
 {}
 
-/// No goal waits where a file declares no demon rules and no delays, and has no module: no goal is a circuit's, and no name
-/// that is called is a demon's or delayed.
-pub fn plain_files_never_wait()
-    ensures { PlainFilesNeverWait }
+/// No goal commits where a file declares no demon rules, and has no module: no goal is a circuit's, and no name that is called
+/// is a demon's.
+pub fn plain_files_never_commit()
+    ensures { PlainFilesNeverCommit }
 {}
