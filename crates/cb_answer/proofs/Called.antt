@@ -1,7 +1,7 @@
 -- The terms of an answer's items, with the goals under the numbers of their predicates.
 use Rattle.std.proofs.Common.{◌≡◌, ℕ, List, [], ◌∷◌, map, get_or, refl, sym, ap, ap₂, subst, ◌∙◌}
 use Rattle.cb_model.specs.Text.{Text}
-use Rattle.cb_laws.proofs.OpenTrees.{Plain, Plains, ANode, Nil, Cons}
+use Rattle.cb_laws.proofs.OpenTrees.{Plains, ANode, Nil, Cons}
 use Rattle.cb_heap.specs.declared.Ref.{Ref}
 use Rattle.cb_heap.specs.declared.Stored.{Stored}
 use Rattle.cb_shape.specs.Terms.{AreCells, AreRoots, IsTerm}

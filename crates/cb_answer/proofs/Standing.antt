@@ -1,5 +1,5 @@
 -- The terms of cells: their leaves' slots are there.
-use Rattle.std.proofs.Common.{◌≡◌, ℕ, suc, ◌<◌, List, [], ◌∷◌, ◌++◌, length, Option, refl, ap}
+use Rattle.std.proofs.Common.{ℕ, suc, ◌<◌, List, [], ◌∷◌, ◌++◌, Option}
 use Rattle.cb_model.specs.Bits.{Each}
 use Rattle.cb_laws.proofs.OpenTrees.{Plain, Plains, ALeaf, ABus, AVar, AnInt, ANode, Nil, Cons, plain_leaves, all_leaves}
 use Rattle.cb_heap.specs.declared.Ref.{Ref}

@@ -20,7 +20,7 @@ use Rattle.cb_heap.specs.declared.Ref.{Ref}
 use Rattle.cb_shape.specs.declared.Root.{Root}
 use Rattle.cb_shape.specs.declared.Root.TheVariants as root
 use Rattle.cb_shape.specs.declared.Token.{Token}
-use Rattle.cb_shape.specs.Shapes.{place_from, firsts, numbered, numbered_all, shape_of}
+use Rattle.cb_shape.specs.Shapes.{place_from, firsts, numbered, numbered_all}
 use Rattle.cb_shape.specs.Tokens.{tail_tokens, bus_tokens, tokens, argument_tokens, rest_tokens, root_tokens, roots_tokens}
 use Rattle.cb_shape.specs.Text.{AreOfLine, PiecesAreTheLine, line_start, starts, term_starts, token_text, tokens_text}
 

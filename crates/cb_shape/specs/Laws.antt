@@ -1,5 +1,5 @@
 -- Laws of terms in cells: each is the contract of a function that does nothing.
-use Rattle.std.specs.Prelude.{◌≡◌, ℕ, ◌<◌, List, length, map, Some, slice_get}
+use Rattle.std.specs.Prelude.{◌≡◌, ℕ, List, length, map, Some, slice_get}
 use Rattle.cb_model.specs.Bits.{Each}
 use Rattle.cb_model.specs.Values.{Word, Sorts, Valuation, grounds}
 use Rattle.cb_laws.proofs.OpenTrees.{Plains, plain_values}

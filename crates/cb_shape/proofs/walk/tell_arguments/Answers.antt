@@ -1,4 +1,4 @@
-use Rattle.std.proofs.Common.{rules, ◌≡◌, List, [], ◌∷◌, refl, sym, arith}
+use Rattle.std.proofs.Common.{rules, ◌≡◌, ◌∷◌, refl, sym, arith}
 use Rattle.std.proofs.lemmas.List.{append-nil}
 use Rattle.cb_shape.proofs.Telling.{on-ok}
 use Rattle.cb_shape.proofs.Resting.{next-cell, cells-end, cells-go-on}

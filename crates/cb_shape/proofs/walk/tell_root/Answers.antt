@@ -1,4 +1,4 @@
-use Rattle.std.proofs.Common.{refl, sym, ap, subst, ◌∙◌}
+use Rattle.std.proofs.Common.{refl, subst}
 use Rattle.cb_shape.specs.declared.Root.{Root}
 use Rattle.cb_shape.specs.declared.Root.TheVariants as root
 use Rattle.cb_shape.specs.Terms.{IsRoot}
