@@ -1,4 +1,4 @@
--- What calls come to: choices, waits and commits.
+-- What the first goal of the branch that runs comes to.
 use Rattle.std.proofs.Common.{◌≡◌, ℕ, ◌+◌, false, List, [], ◌∷◌, ◌++◌, Some, None, refl, sym, ap, subst, ◌∙◌, arith}
 use Rattle.std.specs.Prelude.{slice_get}
 use Rattle.cb_model.specs.declared.Goal.{Goal}
@@ -6,13 +6,12 @@ use Rattle.cb_model.specs.declared.Goal.TheVariants as goal
 use Rattle.cb_model.specs.Program.{Program, first_clause}
 use Rattle.cb_model.specs.Derivation.{Branch, Entry, Run, Try, Query, SoFar, Becomes, Dropped}
 use Rattle.cb_branch.specs.Running.{Seen, IsBranch, IsCall, Keeps, moment_of, program_of, query_of, behind}
-use Rattle.cb_branch.proofs.Laws.{calls-ready, keeps-refl, program-keeps, query-keeps}
+use Rattle.cb_branch.proofs.Laws.{keeps-refl, program-keeps, query-keeps}
 use Rattle.cb_solve.specs.declared.Choice.{Choice}
 use Rattle.cb_solve.specs.declared.Machine.{Machine}
-use Rattle.cb_branch.specs.declared.First.TheVariants as first
 use Rattle.cb_model.specs.Derivation.{RunMoves, Answered}
 use Rattle.cb_solve.proofs.Runs.{moves-first}
-use Rattle.cb_solve.specs.Machine.{Runs, AnswersAt, more, Counted, RunsAt, TriesAt, Chooses, Has, IsSame}
+use Rattle.cb_solve.specs.Machine.{Attempts, Runs, AnswersAt, more, Counted, RunsAt, TriesAt, Chooses, IsSame}
 use Rattle.cb_solve.proofs.Stacks.{stacked-later, counted-step, runs-step, leaves-step, try-moves}
 use Rattle.cb_solve.proofs.Clauses.{first-there}
 
@@ -73,23 +72,23 @@ runs-later p q m t b h k is = record {
 abbrev pub left : Machine → Seen → Machine
 left m t = record m { branch = t; running = false }
 
-pub attempt-none : (m : Machine) (pred : ℕ) (a : Has m (first.Call pred)) → None ≡ first_clause (program_of m.branch) pred → TriesAt (program_of m.branch) (query_of m.branch) (left m m.branch)
+pub attempt-none : (m : Machine) (pred : ℕ) (a : Attempts m pred) → None ≡ first_clause (program_of m.branch) pred → TriesAt (program_of m.branch) (query_of m.branch) (left m m.branch)
 attempt-none m pred a e =
-    leaves-step (program_of m.branch) (query_of m.branch) m (left m m.branch) a.b Dropped a.runs (try-moves (program_of m.branch) a.b pred a.starts.0 a.starts.1 None a.starts.2 (calls-ready m.branch a.b pred a.starts.0 a.starts.1 a.runs.is a.starts.2).0 (calls-ready m.branch a.b pred a.starts.0 a.starts.1 a.runs.is a.starts.2).1 e) refl refl refl refl
+    leaves-step (program_of m.branch) (query_of m.branch) m (left m m.branch) a.b Dropped a.runs (try-moves (program_of m.branch) a.b pred a.args a.rest None a.starts a.plain a.ready e) refl refl refl refl
     (record { budget = refl; answers = refl; used = refl; keeps = keeps-refl m.branch }) refl
 
-pub attempt-some : (m : Machine) (pred k call : ℕ) (t : Seen) (a : Has m (first.Call pred)) → Some k ≡ first_clause (program_of m.branch) pred → Keeps m.branch t →
-    IsBranch t (behind a.b a.starts.1) × IsCall t call pred a.starts.0 → Chooses (program_of t) (query_of t) (left m t) call k
+pub attempt-some : (m : Machine) (pred k call : ℕ) (t : Seen) (a : Attempts m pred) → Some k ≡ first_clause (program_of m.branch) pred → Keeps m.branch t →
+    IsBranch t (behind a.b a.rest) × IsCall t call pred a.args → Chooses (program_of t) (query_of t) (left m t) call k
 attempt-some m pred k call t a e kp h =
     let there = first-there pred k (program_of m.branch).clauses (sym e) in
     moved-to (λ p q. Chooses p q (left m t) call k) m.branch t kp (record {
-      b = behind a.b a.starts.1;
+      b = behind a.b a.rest;
       pred = pred;
-      args = a.starts.0;
+      args = a.args;
       c = there.0;
       lower = a.runs.lower;
-      counted = counted-step (program_of m.branch) (query_of m.branch) m (left m t) (Run a.b) a.runs.lower (Becomes (Try (behind a.b a.starts.1) pred a.starts.0 k)) (Try (behind a.b a.starts.1) pred a.starts.0 k ∷ [])
-          a.runs.counted (try-moves (program_of m.branch) a.b pred a.starts.0 a.starts.1 (Some k) a.starts.2 (calls-ready m.branch a.b pred a.starts.0 a.starts.1 a.runs.is a.starts.2).0 (calls-ready m.branch a.b pred a.starts.0 a.starts.1 a.runs.is a.starts.2).1 e) refl refl refl (omega arith) (omega arith) kp;
+      counted = counted-step (program_of m.branch) (query_of m.branch) m (left m t) (Run a.b) a.runs.lower (Becomes (Try (behind a.b a.rest) pred a.args k)) (Try (behind a.b a.rest) pred a.args k ∷ [])
+          a.runs.counted (try-moves (program_of m.branch) a.b pred a.args a.rest (Some k) a.starts a.plain a.ready e) refl refl refl (omega arith) (omega arith) kp;
       is = h.0;
       cells = h.1;
       there = subst (λ (p : Program). slice_get p.clauses k ≡ Some there.0) (sym (program-keeps m.branch t kp)) there.1;

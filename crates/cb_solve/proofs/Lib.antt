@@ -6,6 +6,7 @@ pub mod Clauses
 pub mod Resolving
 pub mod Loops
 pub mod Turns
+mod Asking
 pub mod Answering
 mod Going
 pub mod Starts

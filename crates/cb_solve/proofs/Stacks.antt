@@ -138,3 +138,10 @@ pub try-moves : (p : Program) (b : Branch) (pred : ℕ) (args : List Tree) (rest
 try-moves p b pred args rest x e d y is = moves-first p b (goal.Call pred args) rest _ e
     (subst (λ (t : Bool). MatchBool t (DemonMoves p (behind b rest) pred args (tried p (behind b rest) pred args x)) (CallMoves p (behind b rest) pred args (tried p (behind b rest) pred args x))) (sym d)
     (inl (y, ap (λ (o : Option ℕ). tried p (behind b rest) pred args o) is)))
+
+-- a call that waits
+pub wait-moves : (p : Program) (b : Branch) (pred : ℕ) (args : List Tree) (rest : List Goal) → b.goals ≡ goal.Call pred args ∷ rest → is_demon p pred ≡ false →
+    (Ready p b.items (goal.Call pred args) → ⊥) → Moves p (Run b) (Becomes (Run (waits (behind b rest) (goal.Call pred args))))
+wait-moves p b pred args rest e d n = let c = Becomes (Run (waits (behind b rest) (goal.Call pred args))) in
+    moves-first p b (goal.Call pred args) rest c e
+    (subst (λ (t : Bool). MatchBool t (DemonMoves p (behind b rest) pred args c) (CallMoves p (behind b rest) pred args c)) (sym d) (inr (n, refl)))

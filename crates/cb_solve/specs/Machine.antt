@@ -1,14 +1,16 @@
 -- The stack of the derivation as the machine keeps it: choices with marks, and on them the branch that runs.
 use Rattle.std.specs.Prelude.{◌≡◌, ℕ, ◌+◌, ◌<◌, ◌≤◌, true, false, ◌⊎◌, List, [], ◌∷◌, ◌++◌, length, Option, Some, None, slice_get}
 use Rattle.cb_model.specs.declared.Tree.{Tree}
+use Rattle.cb_model.specs.declared.Goal.{Goal}
+use Rattle.cb_model.specs.declared.Goal.TheVariants as goal
 use Rattle.cb_model.specs.declared.Clause.{Clause}
 use Rattle.std.specs.Option.{option_map}
 use Rattle.cb_model.specs.Outside.{Rose}
 use Rattle.cb_model.specs.Program.{Program, bools}
-use Rattle.cb_model.specs.Derivation.{resolved, try_next, Becomes, Branch, Entry, Run, Try, Query, Note, Printed, SoFar, Plain, Moves, Adds, Whole, printed_of, stop_of}
+use Rattle.cb_model.specs.Derivation.{resolved, try_next, waits, is_demon, Becomes, Branch, Entry, Ready, Run, Try, Query, Note, Printed, SoFar, Plain, Moves, Adds, Whole, printed_of, stop_of}
 use Rattle.cb_model.specs.Derivation as derivation
 use Rattle.cb_branch.specs.declared.First.{First}
-use Rattle.cb_branch.specs.Running.{Seen, IsBranch, IsFirst, IsCall, Keeps, TooFew, HasRoom, fulls_of, moment_of, nodes_of, program_of, query_of, work_of}
+use Rattle.cb_branch.specs.Running.{Seen, IsBranch, IsFirst, IsCall, Keeps, TooFew, HasRoom, behind, fulls_of, moment_of, nodes_of, program_of, query_of, work_of}
 use Rattle.cb_solve.specs.declared.Budget.{Budget}
 use Rattle.cb_solve.specs.declared.Budget.TheVariants as budget
 use Rattle.cb_solve.specs.declared.Choice.{Choice}
@@ -137,6 +139,27 @@ pub record Runs (m : Machine) : Type 0 where
   pub b : Branch
   pub runs : RunsAt (program_of m.branch) (query_of m.branch) m b
   pub on : m.running ≡ true
+
+-- a branch runs, and its first goal, a call, is to wait
+pub record Waits (m : Machine) : Type 0 where
+  pub b : Branch
+  pub runs : RunsAt (program_of m.branch) (query_of m.branch) m b
+  pub on : m.running ≡ true
+  pub pred : ℕ
+  pub args : List Tree
+  pub rest : List Goal
+  pub starts : b.goals ≡ goal.Call pred args ∷ rest
+  pub moves : Moves (program_of m.branch) (Run b) (Becomes (Run (waits (behind b rest) (goal.Call pred args))))
+
+-- a branch runs, and its first goal is a call that is ready
+pub record Attempts (m : Machine) (pred : ℕ) : Type 0 where
+  pub b : Branch
+  pub runs : RunsAt (program_of m.branch) (query_of m.branch) m b
+  pub args : List Tree
+  pub rest : List Goal
+  pub starts : b.goals ≡ goal.Call pred args ∷ rest
+  pub plain : is_demon (program_of m.branch) pred ≡ false
+  pub ready : Ready (program_of m.branch) b.items (goal.Call pred args)
 
 -- the top entry is a try that is not yet among the choices
 pub record Chooses (p : Program) (q : Query) (m : Machine) (call clause : ℕ) : Type 0 where

@@ -1,19 +1,19 @@
 //! The derivation: a stack of choices over one running branch, from answer to answer.
 #![tactic(auto)]
 
-ghost use Rattle.std.specs.Prelude.{◌≡◌, ◌≢◌, ℕ, ◌+◌, ◌<◌, ◌≤◌, ◌^◌, true, false, Ok, Err, IfOk, IfNone, IfSome, IsErr, OnErr, OnOk, Some, None, slice_get};
+ghost use Rattle.std.specs.Prelude.{◌≡◌, ◌≢◌, ℕ, ◌+◌, ◌<◌, ◌≤◌, ◌^◌, true, false, Ok, Err, IfOk, IfNone, IfSome, IsErr, OnErr, OnOk, Some, None, length, slice_get};
 ghost use Rattle.std.specs.Option.{option_map};
 ghost use Rattle.cb_model.specs.Outside.{Rose};
 ghost use Rattle.cb_model.specs.Output.{printed_from};
 ghost use Rattle.cb_model.specs.Program.{bools};
 ghost use Rattle.cb_model.specs.Derivation.{Branch};
 ghost use Rattle.cb_model.specs.Derivation as derivation;
-ghost use Rattle.cb_branch.specs.Running.{HasRoom, IsBranch, IsPrinted, fulls_of, program_of, query_of, work_of};
+ghost use Rattle.cb_branch.specs.Running.{HasRoom, IsBranch, IsPrinted, IsWaiting, calls_of, fulls_of, program_of, query_of, work_of};
 ghost use Rattle.cb_branch.specs.Scope.{IsRunnable};
 ghost use Rattle.cb_solve.specs.Run.{AnswerFollows, Begins, EndFollows, ForStop, IsBegun, IsHeard, IsRun, IsUnbegun, NodesStop, StopFollows, WasOver, last_of};
 ghost use Rattle.std.specs.Borrow.{sem};
 ghost use Rattle.cb_solve.specs.Lending.{LendsState, LoanKeepsTheRun};
-ghost use Rattle.cb_solve.specs.Machine.{AtStep, Chooses, Has, HasRoomFor, IsEvent, IsFew, IsHeardOf, IsNext, IsRan, IsSame, IsStep, IsTurn, IsTurned, LeavesNext, MayLeave, OnlyChoices, Passes, Resolves, Runs, Stands, TriesAt};
+ghost use Rattle.cb_solve.specs.Machine.{AtStep, Attempts, Chooses, Has, HasRoomFor, IsEvent, IsFew, IsHeardOf, IsNext, IsRan, IsSame, IsStep, IsTurn, IsTurned, LeavesNext, MayLeave, OnlyChoices, Passes, Resolves, Runs, Stands, TriesAt, Waits};
 
 use cb_branch::{Call, First, Mark, Running};
 use cb_dd::Stop;
@@ -129,9 +129,22 @@ fn choose(m: &mut Machine<'_, '_, '_>, call: Call, clause: u32) -> Result<(), St
     }
 }
 
-/// Makes the first goal, a call, a choice of the predicate's clauses.
+/// Lets the first goal, a call that isn't ready, wait.
+fn park(m: &mut Machine<'_, '_, '_>) -> Result<Stepped, Stop>
+    requires { Waits m.old }
+    ensures at { IfOk result (λ r. AtStep (program_of m.old.branch) (query_of m.old.branch) m.new r) }
+    ensures step { IfOk result (λ r. IsStep m.old m.new r) }
+    ensures few { result ≡ Err Stop.Nodes → IsFew m.old m.new }
+{
+    match m.branch.park() {
+        Ok(()) => Ok(Stepped::Goes),
+        Err(stop) => Err(stop),
+    }
+}
+
+/// Makes the first goal, a call that is ready, a choice of the predicate's clauses.
 fn attempt(m: &mut Machine<'_, '_, '_>, pred: u32) -> Result<Stepped, Stop>
-    requires { Has m.old (First.Call pred) }
+    requires { Attempts m.old pred }
     ensures at { IfOk result (λ r. AtStep (program_of m.old.branch) (query_of m.old.branch) m.new r) }
     ensures step { IfOk result (λ r. IsStep m.old m.new r) }
     ensures few { result ≡ Err Stop.Nodes → IsFew m.old m.new }
@@ -146,6 +159,20 @@ fn attempt(m: &mut Machine<'_, '_, '_>, pred: u32) -> Result<Stepped, Stop>
             Ok(()) => Ok(Stepped::Left),
             Err(stop) => Err(stop),
         },
+        Err(stop) => Err(stop),
+    }
+}
+
+/// Takes the first goal, a call: one that isn't ready waits, and another is a choice.
+fn called(m: &mut Machine<'_, '_, '_>, pred: u32) -> Result<Stepped, Stop>
+    requires { Has m.old (First.Call pred) }
+    ensures at { IfOk result (λ r. AtStep (program_of m.old.branch) (query_of m.old.branch) m.new r) }
+    ensures step { IfOk result (λ r. IsStep m.old m.new r) }
+    ensures few { result ≡ Err Stop.Nodes → IsFew m.old m.new }
+{
+    match m.branch.ready() {
+        Ok(true) => attempt(m, pred),
+        Ok(false) => park(m),
         Err(stop) => Err(stop),
     }
 }
@@ -172,7 +199,7 @@ fn step(m: &mut Machine<'_, '_, '_>) -> Result<Stepped, Stop>
             Ok(Stepped::Left)
         }
         First::Equal => equation(m),
-        First::Call(pred) => attempt(m, pred),
+        First::Call(pred) => called(m, pred),
     }
 }
 
@@ -461,6 +488,16 @@ impl<'p, 's, 'q> Engine<'p, 's, 'q> {
         ensures none { IfNone result (slice_get (printed_from 0 self.now.state.query.variables) place ≡ None) }
     {
         self.machine.branch.variable(place)
+    }
+
+    /// After an answer, the goal that waits in this place, counted from 0, in the order in which they began to wait: its
+    /// predicate, and the cells of its arguments. `None` past the last.
+    pub fn waiting(&self, k: usize) -> Option<(u32, &[Ref])>
+        requires { (b : Branch) × IsBranch self.now.state b }
+        ensures some { IfSome result (λ r. IsWaiting self.now.state k r.0 r.1.now) }
+        ensures none { IfNone result (length (calls_of self.now.state) ≤ k) }
+    {
+        self.machine.branch.waiting(k)
     }
 
     /// The terms: after an answer, those of its branch. Who borrows them leaves them as they were, but for a count of

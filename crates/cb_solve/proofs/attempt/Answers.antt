@@ -19,7 +19,7 @@ returns-in_default-clause-step c = record { budget = refl; answers = refl; used 
 pub choose-requires : goal.choose-requires
 choose-requires c =
     let m = c.args.m.now in let a = c.requires in
-    attempt-some m c.args.pred c.in-Some.clause c.in-Ok.call.0 c.call.new.self a c.in-Some.ensures c.in-Ok.ensures.keeps (c.in-Ok.ensures.branch a.b c.args.pred a.starts.0 a.starts.1 a.runs.is a.starts.2)
+    attempt-some m c.args.pred c.in-Some.clause c.in-Ok.call.0 c.call.new.self a c.in-Some.ensures c.in-Ok.ensures.keeps (c.in-Ok.ensures.branch a.b c.args.pred a.args a.rest a.runs.is a.starts)
 
 pub returns-in-Ok-choose-clause-at : goal.returns-in-Ok-choose-clause-at
 returns-in-Ok-choose-clause-at c =
@@ -27,10 +27,10 @@ returns-in-Ok-choose-clause-at c =
     (c.in-Ok-choose.ensures.same.running, moved (λ (p : Program) (q : Query). TriesAt p q c.choose.new.m) m.branch c.call.new.self c.in-Ok.ensures.keeps c.in-Ok-choose.ensures.at)
 
 pub first_clause-requires : goal.first_clause-requires
-first_clause-requires c = let h = c.requires in let s = h.starts in (s.0, record { b = h.b; is = h.runs.is; rest = s.1; goals = s.2 })
+first_clause-requires c = let h = c.requires in (h.args, record { b = h.b; is = h.runs.is; rest = h.rest; goals = h.starts })
 
 pub call-requires : goal.call-requires
-call-requires c = let h = c.requires in let s = h.starts in record { first = (c.args.pred, s.0, record { b = h.b; is = h.runs.is; rest = s.1; goals = s.2 }) }
+call-requires c = let h = c.requires in record { first = (c.args.pred, h.args, record { b = h.b; is = h.runs.is; rest = h.rest; goals = h.starts }) }
 
 pub returns-in-Err-clause-few : goal.returns-in-Err-clause-few
 returns-in-Err-clause-few c = λ e.
