@@ -8,7 +8,6 @@ use Rattle.cb_model.specs.declared.Goal.{Goal}
 use Rattle.cb_model.specs.declared.Goal.TheVariants as goal
 use Rattle.cb_model.specs.declared.Clause.{Clause}
 use Rattle.cb_model.specs.Bits.{Each}
-use Rattle.cb_model.specs.Values.{Sorts}
 use Rattle.cb_model.specs.Program.{Program, bools, shift_goal, shift_tree}
 use Rattle.cb_model.specs.Equations.{Item}
 use Rattle.cb_model.specs.Derivation.{Branch, Waiting, extended}
@@ -23,7 +22,7 @@ use Rattle.cb_unify.specs.State as state
 use Rattle.cb_unify.specs.State.{IsState, FitsTable}
 use Rattle.cb_unify.specs.Growth.{IsGrown}
 use Rattle.cb_unify.proofs.Opened.{bools-append, get-left, where-is}
-use Rattle.cb_branch.specs.Running.{Seen, Place, IsAt, IsParked, StandsFor, StandsInCells, StandsInText, AreGoals, AreWaiting, HasAsked, IsTheBranch, behind}
+use Rattle.cb_branch.specs.Running.{Seen, Place, IsAt, StandsFor, StandsInCells, StandsInText, AreGoals, AreWaiting, HasAsked, IsTheBranch, behind}
 use Rattle.cb_items.specs.Shifted.{IsShiftedGoal, AreShifted}
 use Rattle.cb_branch.specs.Scope.{IsGoalFor}
 use Rattle.cb_items.specs.Standing.{IsFrame, IsVals, HasVariables}

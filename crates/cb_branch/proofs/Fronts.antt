@@ -1,11 +1,9 @@
 -- What goes in front of a branch's goals, and what waits.
-use Rattle.std.proofs.Common.{◌≡◌, ◌↔◌, ℕ, zero, suc, ◌+◌, ◌-◌, ◌<◌, ◌≤◌, Bool, true, false, List, [], ◌∷◌, ◌++◌, length, map, take, drop, get_or, Some, refl, sym, ap, subst, ◌∙◌, arith}
+use Rattle.std.proofs.Common.{◌≡◌, ◌↔◌, ℕ, zero, suc, ◌+◌, ◌-◌, ◌<◌, ◌≤◌, Bool, true, false, List, [], ◌∷◌, ◌++◌, length, map, drop, Some, refl, sym, ap, subst, ◌∙◌, arith}
 use Rattle.std.specs.Prelude.{slice_get}
 use Rattle.cb_model.specs.declared.Goal.{Goal}
-use Rattle.cb_model.specs.declared.Goal.TheVariants as goal
 use Rattle.cb_model.specs.Bits.{Each, Parts, none, yes_here, no_here}
 use Rattle.cb_model.specs.Equations.{Item}
-use Rattle.cb_model.specs.Program.{Program}
 use Rattle.cb_model.specs.Derivation.{Branch, Ready, Waiting, Woken}
 use Rattle.cb_goals.specs.declared.Link.{Link}
 use Rattle.cb_goals.specs.declared.Pending.{Pending}

@@ -20,7 +20,7 @@ use Rattle.cb_model.specs.declared.Goal.{Goal}
 use Rattle.cb_model.specs.declared.Goal.TheVariants as goal
 use Rattle.cb_model.specs.declared.Clause.{Clause}
 use Rattle.cb_model.specs.Program.{bools}
-use Rattle.cb_model.specs.Equations.{Pair, Refuted, Solvable}
+use Rattle.cb_model.specs.Equations.{Pair, Refuted}
 use Rattle.cb_goals.specs.declared.Pending.{Pending}
 use Rattle.cb_goals.specs.Chain.{body_goals, goals_at}
 use Rattle.cb_items.specs.Items.{Refuses}
@@ -28,7 +28,7 @@ use Rattle.cb_items.specs.Standing.{Stands}
 use Rattle.cb_items.proofs.Additions.{keeps-budget}
 use Rattle.cb_wake.proofs.Back.{keeps-self}
 use Rattle.cb_model.specs.Outside.{Rose}
-use Rattle.cb_branch.specs.Running.{GoesOn, IsAt, IsBranch, IsCall, IsLater, IsTheBranch, Keeps, Moment, Place, Seen, behind, TooFew, WantsNodes, fulls_of, moment_of, nodes_of, program_of, with_fulls}
+use Rattle.cb_branch.specs.Running.{IsAt, IsBranch, IsCall, IsLater, IsTheBranch, Keeps, Moment, Place, Seen, behind, TooFew, WantsNodes, fulls_of, moment_of, nodes_of, program_of, with_fulls}
 use Rattle.cb_branch.specs.Terms.{Adds, ForEquation, ForHead, IsBuildable, IsRenamed, NoItem}
 use Rattle.cb_branch.proofs.Branches.{asked}
 use Rattle.cb_branch.proofs.Takes.{clause-fails, clause-goes, equation-buildable, equation-fails, equation-goes}

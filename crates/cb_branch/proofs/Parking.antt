@@ -1,11 +1,10 @@
 -- Calls of a branch that are put into cells, asked whether they are ready, and put aside, over the parts of the branch.
-use Rattle.std.proofs.Common.{◌≡◌, ◌↔◌, ℕ, zero, suc, ◌+◌, ◌<◌, ◌≤◌, Bool, true, false, Ok, Err, List, [], ◌∷◌, ◌++◌, length, map, get_or, Some, None, refl, sym, ap, subst, ◌∙◌, arith}
+use Rattle.std.proofs.Common.{◌≡◌, ◌↔◌, ℕ, zero, suc, ◌<◌, ◌≤◌, Bool, true, false, Ok, Err, List, [], ◌∷◌, ◌++◌, length, map, get_or, Some, None, refl, sym, ap, subst, ◌∙◌, arith}
 use Rattle.std.specs.Prelude.{IfOk, IsTrue, Result, not, slice_get}
 use Rattle.cb_dd.specs.declared.Stop.{Stop}
 use Rattle.cb_model.specs.declared.Clause.{Clause}
 use Rattle.std.proofs.lemmas.Option.{slice_get-get_or}
 use Rattle.cb_model.specs.declared.Sort.{Sort}
-use Rattle.cb_model.specs.declared.Sort.TheVariants as sort
 use Rattle.cb_model.specs.declared.Tree.{Tree}
 use Rattle.cb_model.specs.declared.Tree.TheVariants as tree
 use Rattle.cb_model.specs.declared.Goal.{Goal}
@@ -20,7 +19,7 @@ use Rattle.cb_sorts.specs.OverFile.{asked_program}
 use Rattle.cb_goals.specs.declared.Link.{Link}
 use Rattle.cb_goals.specs.declared.Pending.{Pending}
 use Rattle.cb_goals.specs.declared.Pending.TheVariants as pending
-use Rattle.cb_goals.specs.Chain.{KeepsLists, goals_at}
+use Rattle.cb_goals.specs.Chain.{goals_at}
 use Rattle.cb_heap.specs.declared.Ref.{Ref}
 use Rattle.cb_unify.specs.State as state
 use Rattle.cb_unify.specs.State.{FitsTable, IsState}
@@ -29,18 +28,17 @@ use Rattle.cb_wake.specs.Waits as wake
 use Rattle.cb_wake.specs.Waits.{Waits}
 use Rattle.cb_wake.specs.Moments as wakes
 use Rattle.cb_wake.proofs.Back.{keeps-self}
-use Rattle.cb_items.specs.Standing.{IsVals, Stands}
-use Rattle.cb_items.specs.Shifted.{AreShifted, IsShiftedGoal}
+use Rattle.cb_items.specs.Standing.{Stands}
+use Rattle.cb_items.specs.Shifted.{IsShiftedGoal}
 use Rattle.cb_items.proofs.Lists.{append-nil, each-at, some-one}
 use Rattle.cb_ready.specs.Parked.{Parked, IsParked as HasCells}
 use Rattle.cb_ready.specs.Asking.{IsAskable, IsReadyAt, asking}
 use Rattle.cb_ready.proofs.Words.{ready-at}
-use Rattle.cb_ready.specs.Ready.{HasFewWords, IsAsked, IsPlainCall, TellsReady}
+use Rattle.cb_ready.specs.Ready.{IsAsked, IsPlainCall, TellsReady}
 use Rattle.cb_branch.specs.Running.{AreGoals, GoesOn, IsAt, IsBranch, IsCall, IsCelled, IsLater, IsParked, IsTheBranch, IsWaiting, Keeps, OnCells, Place, Seen, StandsFor, StandsInCells, StandsInText, Starts, StartsInCells, Wakes, behind, call_of, calls_of, pending_at, program_of}
-use Rattle.cb_branch.specs.Scope.{IsGoalFor}
 use Rattle.cb_branch.proofs.Branches.{IsText, asked, goals-none, got-mapped, in-text}
 use Rattle.cb_branch.proofs.Takes.{taken-as}
-use Rattle.cb_branch.proofs.Fronts.{WokeTo, called-front, none-wakes, numbers-below, parked-behind, part-below, woken-stands}
+use Rattle.cb_branch.proofs.Fronts.{called-front, none-wakes, numbers-below, parked-behind, part-below, woken-stands}
 use Rattle.cb_branch.proofs.Calls.{call-kind}
 use Rattle.cb_branch.proofs.Laws.{good-first, program-keeps, shifted-number}
 use Rattle.cb_branch.proofs.Methods.{seen}

@@ -22,7 +22,7 @@ use Rattle.cb_goals.specs.declared.Pending.TheVariants as pending
 use Rattle.cb_unify.specs.State as state
 use Rattle.cb_unify.specs.State.{FitsTable, IsState}
 use Rattle.cb_branch.specs.declared.First.TheVariants as first
-use Rattle.cb_branch.specs.Running.{AreGoals, IsAt, IsBranch, IsFirst, IsTheBranch, Place, Seen, StandsFor, StandsInCells, StandsInText, behind}
+use Rattle.cb_branch.specs.Running.{AreGoals, IsAt, IsBranch, IsFirst, IsTheBranch, Place, Seen, StandsFor, StandsInText, behind}
 use Rattle.cb_items.specs.Shifted.{AreShifted, IsShifted, IsShiftedGoal, shifted}
 use Rattle.cb_items.specs.Standing.{IsFrame, Stands}
 use Rattle.cb_items.proofs.Lists.{append-nil, got-back, some-one}

@@ -179,6 +179,10 @@ called p = pending.Called p.pred p.call
 abbrev pub pending_at : List Parked → ℕ → Pending
 pending_at ps k = get_or (map called ps) k (pending.Asked 0)
 
+-- one list is another with the parked calls of these numbers in front, in this order
+abbrev pub IsPut : List Parked → List ℕ → List Link → ℕ → List Link → ℕ → Type 0
+IsPut ps ks old rest new list = (list ≤ length new) × (goals_at new list ≡ map (pending_at ps) ks ++ goals_at old rest)
+
 -- the calls that wait, in order of number
 abbrev pub calls_of : Seen → List (ℕ × List Ref)
 calls_of s = map (λ k. get_or (map call_of s.parked) k (0, [])) (wake.waiting s.waits)

@@ -88,8 +88,9 @@ impl<'p, 's, 'q> Running<'p, 's, 'q> {
         self.top = rest;
     }
 
-    /// Takes the first goal, an equation, away and adds it; the waiting goals that are then ready go in front. `Ok(false)` comes where it has no solution together with
-    /// those before; then, and after a refusal, the branch is of use only to go back.
+    /// Takes the first goal, an equation, away and adds it; the waiting goals that are then ready go in front. `Ok(false)`
+    /// comes where it has no solution together with those before; then, and after a refusal, the branch is of use only to
+    /// go back.
     pub fn equate(&mut self) -> Result<bool, Stop>
         requires first { (l r : Tree) × Starts self.old (goal.Equal l r) }
         requires room { HasRoom self.old 0 }
@@ -149,9 +150,9 @@ impl<'p, 's, 'q> Running<'p, 's, 'q> {
         }
     }
 
-    /// Renames a clause apart, adds that its head is the call, and puts its body in front of the goals, and in front of it
-    /// the waiting goals that are then ready. `Ok(false)` comes where head and call have no solution together with the equations before; then, and after a refusal, the branch is
-    /// of use only to go back.
+    /// Renames a clause apart, adds that its head is the call, and puts its body in front of the goals, and in front of
+    /// those the waiting goals that are then ready. `Ok(false)` comes where head and call have no solution together with
+    /// the equations before; then, and after a refusal, the branch is of use only to go back.
     pub fn resolve(&mut self, clause: u32, call: Call) -> Result<bool, Stop>
         requires { IsResolvable self.old clause call.0 }
         ensures yes { result ≡ Ok true → OnResolution self.old clause call.0 (GoesOn (program_of self.old) self.new) }

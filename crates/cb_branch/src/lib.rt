@@ -1,5 +1,5 @@
-//! The branch of the derivation that runs: its goals, its equations as terms over Boolean variables, and the way back to
-//! any earlier moment.
+//! The branch of the derivation that runs: its goals, those among them that wait, its equations as terms over Boolean
+//! variables, and the way back to any earlier moment.
 #![tactic(auto)]
 
 ghost use Rattle.std.specs.Prelude.{◌≡◌, ℕ, ◌+◌, ◌<◌, ◌≤◌, ◌^◌, List, [], ◌∷◌, length, map, Some, None, Ok, Err, IfOk, IfSome, IfNone, OnOk, true, false, slice_get};

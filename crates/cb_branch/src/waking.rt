@@ -1,10 +1,10 @@
 //! Waking: after an equation the waiting goals that are now ready go in front of the others.
 
-ghost use Rattle.std.specs.Prelude.{◌≡◌, ℕ, ◌<◌, ◌≤◌, List, ◌++◌, length, map, Err, IfOk, OnOk};
+ghost use Rattle.std.specs.Prelude.{◌≡◌, ℕ, ◌<◌, ◌≤◌, length, Err, IfOk, OnOk};
 ghost use Rattle.cb_model.specs.Bits.{Each};
 ghost use Rattle.cb_model.specs.Derivation.{Branch};
-ghost use Rattle.cb_goals.specs.Chain.{KeepsLists, goals_at};
-ghost use Rattle.cb_branch.specs.Running.{IsBranch, Keeps, OnBranch, Wakes, pending_at, program_of};
+ghost use Rattle.cb_goals.specs.Chain.{KeepsLists};
+ghost use Rattle.cb_branch.specs.Running.{IsBranch, IsPut, Keeps, OnBranch, Wakes, program_of};
 
 use crate::Running;
 use cb_dd::Stop;
@@ -62,7 +62,7 @@ fn put_in_front(
 ) -> Result<usize, AllocError>
     requires rest { rest ≤ length goals.old }
     requires numbers { Each (λ k. k < length parked.now) numbers.now }
-    ensures pushed { IfOk result (λ r. (r ≤ length goals.new) × (goals_at goals.new r ≡ map (pending_at parked.now) numbers.now ++ goals_at goals.old rest)) }
+    ensures pushed { IfOk result (IsPut parked.now numbers.now goals.old rest goals.new) }
     ensures keeps { KeepsLists goals.old goals.new }
 {
     let mut list = rest;

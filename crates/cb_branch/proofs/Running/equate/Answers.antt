@@ -1,4 +1,4 @@
-use Rattle.std.proofs.Common.{[], ◌+◌, Bool, Ok, length, refl, sym, ap, append-nil}
+use Rattle.std.proofs.Common.{[], Bool, Ok, length, refl, sym, ap, append-nil}
 use Rattle.cb_model.specs.declared.Goal.TheVariants as goal_is
 use Rattle.std.proofs.Common.{arith}
 use Rattle.std.specs.Prelude.{Result}

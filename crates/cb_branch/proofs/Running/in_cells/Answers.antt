@@ -1,4 +1,3 @@
-use Rattle.std.proofs.Common.{◌∷◌}
 use Rattle.cb_model.specs.declared.Goal.TheVariants as goal_is
 use Rattle.cb_branch.specs.Running.{behind}
 use Rattle.cb_branch.proofs.Laws.{keeps-then}

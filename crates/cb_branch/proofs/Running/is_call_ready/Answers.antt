@@ -1,4 +1,4 @@
-use Rattle.std.proofs.Common.{◌∙◌, ℕ, ◌<◌, Bool, List, length, ap, sym, subst}
+use Rattle.std.proofs.Common.{◌∙◌, ◌<◌, List, length, ap, sym, subst}
 use Rattle.cb_model.specs.Bits.{Each}
 use Rattle.cb_heap.specs.declared.Ref.{Ref}
 use Rattle.cb_ready.specs.Parked.{Parked}

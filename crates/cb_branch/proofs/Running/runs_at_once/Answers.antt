@@ -1,6 +1,4 @@
-use Rattle.std.proofs.Common.{[], ◌∙◌, ap, sym, arith}
-use Rattle.std.specs.Prelude.{List}
-use Rattle.cb_model.specs.declared.Tree.{Tree}
+use Rattle.std.proofs.Common.{[], ◌∙◌, sym}
 use Rattle.cb_model.specs.declared.Goal.TheVariants as goal_is
 use Rattle.cb_branch.proofs.Branches.{is-text}
 use Rattle.cb_branch.proofs.Calls.{call-name, goals-here, list-inside, not-call, not-nothing, place-there, top-here}

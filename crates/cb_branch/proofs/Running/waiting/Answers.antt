@@ -1,8 +1,6 @@
-use Rattle.std.proofs.Common.{◌∙◌, List, ap, sym, subst, arith}
-use Rattle.std.proofs.lemmas.Option.{slice_get-get_or}
-use Rattle.cb_heap.specs.declared.Ref.{Ref}
+use Rattle.std.proofs.Common.{◌∙◌, ap, sym, arith}
 use Rattle.cb_ready.specs.Parked.{Parked}
-use Rattle.cb_branch.proofs.Parking.{got-parked, waiting-at, waiting-past, waiting-there}
+use Rattle.cb_branch.proofs.Parking.{got-parked, waiting-there}
 use Rattle.cb_branch.proofs.Running.waiting.Goals as goal
 
 pub index-call-requires : goal.index-call-requires

@@ -1,4 +1,4 @@
-use Rattle.std.proofs.Common.{◌∷◌, ◌++◌, ◌∙◌, ℕ, ◌<◌, List, [], length, map, ap, sym, subst, arith}
+use Rattle.std.proofs.Common.{◌++◌, ◌∙◌, ℕ, ◌<◌, List, [], length, map, ap, sym, subst, arith}
 use Rattle.std.proofs.lemmas.Bool.{eqb-true}
 use Rattle.cb_model.specs.Bits.{Each, Parts}
 use Rattle.cb_goals.specs.Chain.{goals_at}
