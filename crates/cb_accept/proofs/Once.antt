@@ -30,7 +30,7 @@ is-whole : (file : Text) (cs : List FormClause) → IsReading ReadsClause file (
 is-whole file cs (whole ts xs l r n) = record { ts = ts; lexes = l; reads = r; shallow = n }
 
 -- the clauses of a file are one list
-clauses-one : (file : Text) (cs bs : List FormClause) → IsReading ReadsClause file (Whole cs) → IsReading ReadsClause file (Whole bs) → cs ≡ bs
+pub clauses-one : (file : Text) (cs bs : List FormClause) → IsReading ReadsClause file (Whole cs) → IsReading ReadsClause file (Whole bs) → cs ≡ bs
 clauses-one file cs bs h k =
     let a = is-whole file cs h in
     let b = is-whole file bs k in
@@ -118,10 +118,6 @@ refused-not-loaded file r (output.rule cs d e s h k n p) l i =
     (subst (λ x. RulesRefusal x (heads l.clauses) (module_names l.clauses) l.clauses (Some e)) same (over file cs l (λ xs. RulesRefusal d (heads xs) (module_names xs) xs (Some e)) h i n))
 refused-not-loaded file r (output.a_fact cs d e c s h k n f p) l i =
     let q : no_fault ≡ Some e = (facts-are-one i.facts (over file cs l (λ xs. FactsRead no_circuits xs (Some e) c) h i f)).0 in cc
-
--- a file with facts isn't one without
-pub facts-not-loaded : (file : Text) (k : Loaded) → IsLoaded file k → list_any is_fact k.clauses ≡ true → (l : Loaded) → IsLoaded file l → list_any is_fact l.clauses ≡ false → ⊥
-facts-not-loaded file k j t l i n = true≢false (sym t ∙ ap (list_any is_fact) (clauses-one file k.clauses l.clauses j.reading i.reading) ∙ n)
 
 -- clauses without facts have no circuits
 pub read_none : (cs : List FormClause) → list_any is_fact cs ≡ false → FactsRead no_circuits cs None no_circuits

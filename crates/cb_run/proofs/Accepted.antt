@@ -5,36 +5,17 @@ use Rattle.cb_accept.specs.Refusals.{without_circuits}
 use Rattle.cb_accept.specs.File.{forms, holds, IsAccepted}
 use Rattle.cb_accept.specs.declared.Accepted.{Accepted}
 use Rattle.cb_accept.proofs.Accepting.{accepted-loaded}
-use Rattle.cb_accept.proofs.Once.{read_none}
-use Rattle.cb_lex.proofs.OneList.{one_list}
-use Rattle.cb_laws.proofs.OneReading.{clauses_are_one}
+use Rattle.cb_accept.proofs.Once.{clauses-one, read_none}
 use Rattle.cb_laws.proofs.OneFacts.{facts-are-one}
 use Rattle.std.specs.List.{list_any}
 use Rattle.cb_model.specs.declared.RawClause.{RawClause}
 use Rattle.cb_model.specs.Forms.{clause_form}
 use Rattle.cb_model.specs.Text.{Text}
-use Rattle.cb_model.specs.Tokens.{Token, Lexes}
-use Rattle.cb_model.specs.Grammar.{FormClause, Whole, IsReading, whole, ReadsClause, ReadsAll}
+use Rattle.cb_model.specs.Grammar.{FormClause}
 use Rattle.cb_model.specs.Output.{Loaded, IsLoaded}
 use Rattle.cb_run.specs.Run.{has_unbuilt, IsBuilt}
 use Rattle.cb_run.specs.Running.{IsOver}
 use Rattle.cb_run.proofs.Plain.{no-facts}
-
--- the tokens of a file that is read whole, and their clauses
-record IsWhole (file : Text) (cs : List FormClause) : Type 0 where
-  pub ts : List Token
-  pub lexes : Lexes 0 1 file ts None
-  pub reads : ReadsAll ReadsClause ts cs
-
-is-whole : (file : Text) (cs : List FormClause) → IsReading ReadsClause file (Whole cs) → IsWhole file cs
-is-whole file cs (whole ts xs l r n) = record { ts = ts; lexes = l; reads = r }
-
--- the clauses of a file are one list
-clauses-one : (file : Text) (cs bs : List FormClause) → IsReading ReadsClause file (Whole cs) → IsReading ReadsClause file (Whole bs) → cs ≡ bs
-clauses-one file cs bs h k =
-    let a = is-whole file cs h in
-    let b = is-whole file bs k in
-    clauses_are_one b.ts cs bs (subst (λ ts. ReadsAll ReadsClause ts cs) (one_list a.lexes b.lexes).0 a.reads) b.reads
 
 -- whether a file has something of it, asked clause by clause
 pub any-clauses : (p : FormClause → Bool) (cs : List RawClause) → list_any p (map clause_form cs) ≡ list_any (λ c. p (clause_form c)) cs

@@ -14,7 +14,7 @@ use Rattle.cb_model.specs.Output as model
 use Rattle.cb_model.specs.Output.{Loaded, IsQuery, QueriesRefusal, QuerySays, QueriesSay, passes}
 use Rattle.cb_sorts.specs.Source.{Source}
 use Rattle.cb_sorts.specs.OverFile.{QueriesOverFile, asked_program, asked_query, asked_names}
-use Rattle.cb_sorts.specs.Waits.{PlainFilesNeverWait}
+use Rattle.cb_sorts.specs.Commits.{PlainFilesNeverCommit}
 use Rattle.cb_sorts.specs.Asked.{Asked, Asks}
 use Rattle.cb_branch.specs.Scope.{IsRunnable}
 use Rattle.cb_branch.specs.Accepted.{AcceptedCanRun}
@@ -29,14 +29,14 @@ use Rattle.cb_run.proofs.Plain.{declares-none, no-modules}
 -- ---- what queries ask
 
 -- a query of a file that has nothing which `run` doesn't take yet can be run
-can-run : PlainFilesNeverWait → AcceptedCanRun → (cs : List FormClause) (s : Source) → IsOver cs s → (gs : List FormGoal) (a : Asked) → length gs < 2 ^ 32 →
+can-run : PlainFilesNeverCommit → AcceptedCanRun → (cs : List FormClause) (s : Source) → IsOver cs s → (gs : List FormGoal) (a : Asked) → length gs < 2 ^ 32 →
     Asks s.declared (heads cs) s.names (module_names cs) gs a → IsRunnable s a
 can-run plain can cs s o gs a few h =
     let n = declares-none cs s.declared o.loads.declares o.built.built in
-    can o.file (without_circuits cs s.declared) s gs a o.built.loaded refl o.loads few h (plain cs s gs a o.loads h n.demons n.delays (no-modules cs o.built.built))
+    can o.file (without_circuits cs s.declared) s gs a o.built.loaded refl o.loads few h (plain cs s gs a o.loads h n (no-modules cs o.built.built))
 
 -- so all of a short input can be told
-pub all-can-tell : PlainFilesNeverWait → AcceptedCanRun → (cs : List FormClause) (s : Source) → IsOver cs s → (qs : List FormQuery) (ones : List Asked) → AllAsk cs s qs ones →
+pub all-can-tell : PlainFilesNeverCommit → AcceptedCanRun → (cs : List FormClause) (s : Source) → IsOver cs s → (qs : List FormQuery) (ones : List Asked) → AllAsk cs s qs ones →
     sum_by (λ q. length q.goals) qs ≤ 1048576 → Each (CanTell s) ones
 all-can-tell plain can cs s o [] [] none_asked m = tt
 all-can-tell plain can cs s o [] (a ∷ ones) k m = elim k [ ]

@@ -1,4 +1,4 @@
--- What `run` prints, so far as it is built: over files without facts of circuits and without directives `delay` and `demon`.
+-- What `run` prints, so far as it is built: over files without facts of circuits and without directives `demon`.
 -- What it says is what the definitions say, but that a stop for nodes has no bound yet.
 use Rattle.std.specs.Prelude.{◌≡◌, ℕ, ◌≤◌, Bool, true, false, ◌||◌, List, [], ◌∷◌, ◌++◌, length, codes, bytes_eq, None}
 use Rattle.std.specs.List.{list_any}
@@ -17,14 +17,14 @@ use Rattle.cb_tell.specs.Told.{QueryTells, QueryBegins}
 
 -- ---- the file
 
--- whether it is a directive `delay` or `demon`
-abbrev pub is_waiting : FormClause → Bool
-is_waiting (Directive line word args) = bytes_eq word (codes "delay") || bytes_eq word (codes "demon")
-is_waiting (Rule line head bodied body) = false
+-- whether it is a directive `demon`
+abbrev pub declares_demon : FormClause → Bool
+declares_demon (Directive line word args) = bytes_eq word (codes "demon")
+declares_demon (Rule line head bodied body) = false
 
--- whether clauses have what `run` doesn't take yet: a fact of circuits, or a directive `delay` or `demon`
+-- whether clauses have what `run` doesn't take yet: a fact of circuits, or a directive `demon`
 abbrev pub has_unbuilt : List FormClause → Bool
-has_unbuilt cs = list_any is_fact cs || list_any is_waiting cs
+has_unbuilt cs = list_any is_fact cs || list_any declares_demon cs
 
 -- the file is accepted, and has nothing that `run` doesn't take yet
 pub record IsBuilt (file : Text) (l : Loaded) : Type 0 where

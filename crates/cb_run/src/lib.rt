@@ -11,7 +11,7 @@ ghost use Rattle.cb_model.specs.Output.{run_outcome};
 ghost use Rattle.cb_tell.specs.Told.{OutputFailed};
 ghost use Rattle.cb_lines.specs.Words.{nodes_view};
 ghost use Rattle.cb_accept.specs.File.{forms, holds, IsAccepted};
-ghost use Rattle.cb_run.specs.Run.{has_unbuilt, is_waiting as waits};
+ghost use Rattle.cb_run.specs.Run.{has_unbuilt, declares_demon as demon};
 ghost use Rattle.cb_run.specs.Running.{AllTold, AskAll, AskedRun, CanTell, FileRun, InputWrites, IsOfClauses, OverFile, ProgramRun, QueriesWrite, RefuseAll};
 
 use cb_accept::Accepted;
@@ -23,7 +23,7 @@ use cb_lines::lines;
 use cb_lines::refusals::{Whose, unloaded, unread};
 use cb_lines::words::Nodes;
 use cb_model::{Outcome, RawClause, RawQuery, Side};
-use cb_sorts::{Program, Query, plain_files_never_wait, queries_over_file};
+use cb_sorts::{Program, Query, plain_files_never_commit, queries_over_file};
 use cb_syntax::read_queries;
 use cb_tell::tell;
 use std::alloc::Global;
@@ -32,7 +32,7 @@ use std::alloc::Global;
 pub const INPUT_LIMIT: u64 = 1048576;
 
 /// Runs the queries of the input over an accepted file, each with so many resolutions and on a store of so many nodes. Each
-/// line is written as it is found. A file with facts of circuits or with a directive `delay` or `demon` is refused with 99.
+/// line is written as it is found. A file with facts of circuits or with a directive `demon` is refused with 99.
 pub fn run<I: Source, O: Sink>(
     alloc: Global,
     file: &Accepted<'_>,
@@ -53,30 +53,28 @@ pub fn run<I: Source, O: Sink>(
     over_program(alloc, &file.program, resolutions, nodes, input, out)
 }
 
-// Whether a file has facts of circuits, or a directive `delay` or `demon`.
+// Whether a file has facts of circuits, or a directive `demon`.
 fn has_unbuilt(file: &Accepted<'_>) -> bool
     ensures { result ≡ has_unbuilt (forms file.now) }
 {
     let facts = file.has_facts();
-    let waiting = have_waiting(file.clauses.as_slice());
-    facts || waiting
+    let demons = have_demons(file.clauses.as_slice());
+    facts || demons
 }
 
-// Whether a clause is a directive `delay` or `demon`.
-fn have_waiting(clauses: &[RawClause<'_>]) -> bool
-    ensures { result ≡ list_any (λ c. waits (clause_form c)) clauses.now }
+// Whether a clause is a directive `demon`.
+fn have_demons(clauses: &[RawClause<'_>]) -> bool
+    ensures { result ≡ list_any (λ c. demon (clause_form c)) clauses.now }
 {
-    clauses.iter().any(|clause| is_waiting(clause))
+    clauses.iter().any(|clause| declares_demon(clause))
 }
 
-// Whether it is a directive `delay` or `demon`.
-fn is_waiting(clause: &RawClause<'_>) -> bool
-    ensures { result ≡ waits (clause_form clause.now) }
+// Whether it is a directive `demon`.
+fn declares_demon(clause: &RawClause<'_>) -> bool
+    ensures { result ≡ demon (clause_form clause.now) }
 {
     match clause {
-        RawClause::Directive { word, .. } => {
-            *word == b"delay".as_slice() || *word == b"demon".as_slice()
-        }
+        RawClause::Directive { word, .. } => *word == b"demon".as_slice(),
         RawClause::Rule { .. } => false,
     }
 }
@@ -142,7 +140,7 @@ fn over_queries<'s, O: Sink>(
     ensures faults { Counted (result ≡ Outcome.Fault Side.Output) (O.faults out.old) (O.faults out.new) }
 {
     queries_over_file();
-    plain_files_never_wait();
+    plain_files_never_commit();
     accepted_can_run();
     match ask_all(alloc, program, raw) {
         Ok(queries) => over_asked(alloc, program, queries.as_slice(), resolutions, nodes, out),

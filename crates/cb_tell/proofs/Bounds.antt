@@ -1,6 +1,6 @@
 -- What the budgets say of a beginning of a run: how many answers it has, and how many variables its branches.
-use Rattle.std.proofs.Common.{◌≡◌, ◌⊎◌, inl, inr, ℕ, ◌+◌, ◌<◌, ◌≤◌, Bool, true, false, List, [], ◌∷◌, ◌++◌, length, Option, None, Some, refl, sym, ◌∙◌, ap, subst, arith, length-append}
-use Rattle.std.specs.Prelude.{MatchBool, slice_get, if◌then◌else◌, nat_lt}
+use Rattle.std.proofs.Common.{◌≡◌, inl, inr, ℕ, ◌+◌, ◌≤◌, Bool, true, false, List, [], ◌∷◌, ◌++◌, length, Option, None, Some, refl, sym, ◌∙◌, ap, subst, arith, length-append}
+use Rattle.std.specs.Prelude.{MatchBool, if◌then◌else◌, nat_lt}
 use Rattle.std.specs.Option.{option_map}
 use Rattle.std.specs.Prelude.{option_to_list}
 use Rattle.std.proofs.lemmas.Bool.{ltb-false}
@@ -9,7 +9,7 @@ use Rattle.cb_model.specs.declared.Tree.{Tree}
 use Rattle.cb_model.specs.declared.Goal.{Goal}
 use Rattle.cb_model.specs.declared.Goal.TheVariants as goal
 use Rattle.cb_model.specs.Program.{Program, bools, next_clause, first_clause}
-use Rattle.cb_model.specs.Derivation.{Query, Branch, Entry, Run, Try, Change, Answered, Dropped, Becomes, Adds, Resolutions, Variables, Equations, Note, Made, Printed, SoFar, Goes, here, on, Moves, RunMoves, GoalMoves, DemonMoves, CallMoves, Replaces, is_demon, tried, try_next, notes_of, resolutions_of, stop_of, passed, first_branch, printed_of}
+use Rattle.cb_model.specs.Derivation.{Query, Branch, Entry, Run, Try, Change, Answered, Dropped, Becomes, Adds, Resolutions, Variables, Equations, Note, Made, Printed, SoFar, Goes, here, on, Moves, RunMoves, GoalMoves, DemonMoves, CallMoves, Replaces, is_demon, tried, notes_of, resolutions_of, stop_of, passed, first_branch, printed_of}
 
 -- its constants and variables are not too many
 abbrev pub Fits : Program → Branch → Type 0

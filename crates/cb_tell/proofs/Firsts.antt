@@ -1,11 +1,10 @@
 -- The lines of a query's first answers, and how they go on.
-use Rattle.std.proofs.Common.{◌≡◌, ℕ, ◌+◌, ◌≤◌, Bool, true, List, [], ◌∷◌, ◌++◌, length, take, Option, None, Some, refl, sym, ◌∙◌, ap, subst, arith, append_assoc, length-append, codes}
-use Rattle.std.proofs.lemmas.List.{append-nil}
+use Rattle.std.proofs.Common.{◌≡◌, ℕ, ◌+◌, ◌≤◌, true, List, [], ◌∷◌, ◌++◌, length, take, Option, None, Some, refl, sym, ◌∙◌, ap, subst, arith, append_assoc, length-append, codes}
 use Rattle.std.proofs.Math.Seq.{take-append_seam, take-length}
 use Rattle.cb_model.specs.Text.{Text, lines_text, IsPrefix}
 use Rattle.cb_model.specs.Commands.{Nodes, IsNumber}
 use Rattle.cb_model.specs.Program.{Program}
-use Rattle.cb_model.specs.Derivation.{Query, Branch, Budget, Note, Made, Printed, Entry, End, Stopped, SoFar, Goes, here, Plain, runs, stopped, passed, first_branch, printed_of}
+use Rattle.cb_model.specs.Derivation.{Query, Branch, Budget, Note, Made, Printed, Entry, End, Stopped, SoFar, here, Plain, runs, stopped, passed, first_branch, printed_of}
 use Rattle.cb_model.specs.Line.{Names, IsLine}
 use Rattle.cb_model.specs.Output.{AreLines, no_lines, more_lines, QuerySays, all, end_text, is_stop}
 use Rattle.cb_laws.proofs.Begins.{same_prints, printed_append}

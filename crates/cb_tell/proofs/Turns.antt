@@ -10,16 +10,15 @@ use Rattle.cb_model.specs.Commands.{Nodes, Max, Only, IsNumber, budget_of}
 use Rattle.cb_model.specs.Program.{Program}
 use Rattle.cb_model.specs.Derivation.{Query, Branch, Entry, Note, Printed, SoFar, Plain, End, Stopped, Whole, printed_of}
 use Rattle.cb_model.specs.Derivation as derivation
-use Rattle.cb_model.specs.Line.{Names, IsLine}
+use Rattle.cb_model.specs.Line.{Names}
 use Rattle.cb_model.specs.Output.{end_text}
 use Rattle.cb_laws.proofs.Begins.{printed_append}
 use Rattle.cb_host.proofs.Writes.{Wrote-none, Wrote-then}
-use Rattle.cb_show.specs.Front.{Front}
 use Rattle.cb_sorts.specs.Source.{Source}
 use Rattle.cb_sorts.specs.Asked.{Asked}
 use Rattle.cb_sorts.specs.OverFile.{asked_program, asked_query, asked_names}
 use Rattle.cb_answer.specs.Writing.{WroteFront, WroteLine}
-use Rattle.cb_branch.specs.Running.{Seen, IsBranch, TooFew, fulls_of, nodes_of, program_of, query_of, unbegun}
+use Rattle.cb_branch.specs.Running.{Seen, TooFew, nodes_of, program_of, query_of, unbegun}
 use Rattle.cb_branch.specs.Lending.{left_with}
 use Rattle.cb_solve.specs.declared.Budget.{Budget}
 use Rattle.cb_solve.specs.declared.Budget.TheVariants as budget
@@ -30,9 +29,9 @@ use Rattle.cb_solve.specs.Run.{Run, IsRun, AnswerFollows, EndFollows, StopFollow
 use Rattle.cb_solve.specs.Lending.{LoanKeepsTheRun}
 use Rattle.cb_tell.specs.declared.Turn.{Turn}
 use Rattle.cb_tell.specs.declared.Turn.TheVariants as turn
-use Rattle.cb_tell.specs.Told.{ForNodes, QueryTells, said, few, QueryBegins, so_far, of_all, IsTold, BreaksOff}
-use Rattle.cb_tell.specs.Telling.{AreFirst, AnswerTells, IsAnswered, IsLent, IsLineAt, IsOf, IsOverAtOnce, LastTells, SoFarTold, TurnTells, ended_text, is_none, stop_text}
-use Rattle.cb_tell.proofs.Firsts.{none_first, lines_of, one_more, ends, too_few, nothing_begins, lines_begin, text_append}
+use Rattle.cb_tell.specs.Told.{ForNodes, QueryTells, said, QueryBegins, of_all, BreaksOff}
+use Rattle.cb_tell.specs.Telling.{AreFirst, IsAnswered, IsLent, IsLineAt, IsOf, IsOverAtOnce, LastTells, SoFarTold, TurnTells, ended_text, is_none, stop_text}
+use Rattle.cb_tell.proofs.Firsts.{none_first, one_more, ends, too_few, nothing_begins, lines_begin, text_append}
 use Rattle.cb_tell.proofs.Bounds.{answers-few, answer-fits}
 
 -- ---- texts

@@ -1,5 +1,5 @@
 -- What is written of an answer.
-use Rattle.std.proofs.Common.{◌≡◌, ◌≢◌, ℕ, ◌+◌, ◌-◌, ◌^◌, ◌<◌, ◌≤◌, List, [], length, Option, Result, Ok, Err, OnOk, refl, sym, ◌∙◌, ap, subst, arith}
+use Rattle.std.proofs.Common.{◌≡◌, ◌≢◌, ℕ, ◌+◌, ◌-◌, ◌^◌, ◌≤◌, List, [], Option, Result, Ok, Err, OnOk, refl, sym, ◌∙◌, ap, subst, arith}
 use Rattle.cb_model.specs.Text.{Text}
 use Rattle.cb_model.specs.Faults.{Counted}
 use Rattle.cb_model.specs.Outside.{Rose, Wrote}
@@ -19,15 +19,17 @@ use Rattle.cb_unify.specs.State as state
 use Rattle.cb_answer.specs.declared.Item.{Item}
 use Rattle.cb_answer.specs.Answered.{IsLineFor}
 use Rattle.cb_answer.specs.Answering.{Tells}
-use Rattle.cb_answer.specs.Writing.{IsTellable, WroteFront, WroteLine, roots_of}
-use Rattle.cb_branch.specs.Running.{IsBranch, fulls_of, nodes_of, program_of}
+use Rattle.cb_answer.specs.Items.{AreItems}
+use Rattle.cb_answer.specs.Writing.{IsTellable, WroteFront, WroteLine}
+use Rattle.cb_answer.proofs.Items.{items-there}
+use Rattle.cb_branch.specs.Running.{IsBranch, calls_of, fulls_of, nodes_of, program_of}
 use Rattle.cb_branch.specs.Laws.{BranchHasItsValues, HasItsValues}
 use Rattle.cb_solve.specs.Lending.{with_state}
 use Rattle.cb_solve.specs.Run.{Run}
-use Rattle.cb_tell.specs.Telling.{AnswerTells, AreItems, IsAnswered, IsLent, IsLineAt, WriteFailed}
-use Rattle.cb_tell.proofs.Printing.{items-named, items-printed, items-there}
+use Rattle.cb_tell.specs.Telling.{AnswerTells, IsAnswered, IsLent, IsLineAt, WriteFailed}
 
-module _ (values : BranchHasItsValues) (s : Source) (a : Asked) (r : Run) (h : IsAnswered s a r) (xs : List Item) (items : AreItems r.state.state.made (printed_from 0 a.variables) xs) where
+module _ (values : BranchHasItsValues) (s : Source) (a : Asked) (r : Run) (h : IsAnswered s a r) (xs : List Item)
+    (items : AreItems r.state.state.made (asked_names s a).names (printed_from 0 a.variables) (calls_of r.state) xs) where
   has : HasItsValues r.state h.b
   has = values r.state h.b h.is
 
@@ -40,14 +42,14 @@ module _ (values : BranchHasItsValues) (s : Source) (a : Asked) (r : Run) (h : I
     state = has.state;
     table = (program_of r.state).world.arguments;
     fits = has.fits;
-    there = items-there r.state.state.made (length r.state.state.heap.cells) (printed_from 0 a.variables) xs has.state.made items;
+    there = items-there (program_of r.state).world.arguments r.state.state (asked_names s a).names (printed_from 0 a.variables) h.b.waiting (calls_of r.state) xs has.state.heap.number has.state.made has.waiting items;
     room = let d = has.drawn in let f = few (program_of r.state) h.program in omega (arith, d, f);
   }
 
-  tells : (b : Branch) → IsBranch r.state b → Tells (asked_program s a []) (asked_names s a) b r.state.state (roots_of xs)
+  tells : (b : Branch) → IsBranch r.state b → Tells (asked_program s a []) (asked_names s a) b r.state.state xs
   tells b i =
       let v = values r.state b i in
-      subst (λ (p : Program). Tells p (asked_names s a) b r.state.state (roots_of xs)) h.program
+      subst (λ (p : Program). Tells p (asked_names s a) b r.state.state xs) h.program
       (record {
         state = v.state;
         fits = v.fits;
@@ -55,13 +57,14 @@ module _ (values : BranchHasItsValues) (s : Source) (a : Asked) (r : Run) (h : I
         drawn = v.drawn;
         variables = v.variables;
         vals = v.vals;
+        calls = calls_of r.state;
         waiting = v.waiting;
-        printed = items-printed r.state.state (printed_from 0 a.variables) xs items;
+        items_are = items;
       })
 
   -- their line is the answer's
   line-at : (line : Text) → IsLineFor (asked_names s a).names (asked_names s a).constants r.state.state xs line → IsLineAt s a r.state line
-  line-at line l b i = l (asked_program s a []) (asked_names s a) b (tells b i) refl refl (items-named r.state.state.made (printed_from 0 a.variables) xs items)
+  line-at line l b i = l (asked_program s a []) (asked_names s a) b (tells b i) refl refl
 
   -- what was written
   pub answer-told : (before after : Option Text) (result : Result (Unit {0}) ShowError) →

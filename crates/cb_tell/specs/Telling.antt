@@ -1,5 +1,5 @@
 -- How a query is told: line by line, while its run goes on.
-use Rattle.std.specs.Prelude.{◌≡◌, ◌≢◌, ℕ, ◌+◌, ◌-◌, ◌^◌, ◌≤◌, ◌⊎◌, Bool, true, false, List, [], ◌∷◌, ◌++◌, length, slice_get, take, codes, Option, None, Some, Result, Ok, Err}
+use Rattle.std.specs.Prelude.{◌≡◌, ◌≢◌, ℕ, ◌+◌, ◌-◌, ◌^◌, ◌≤◌, ◌⊎◌, Bool, true, false, List, [], ◌∷◌, length, take, codes, Option, None, Some, Result, Ok, Err}
 use Rattle.cb_model.specs.declared.Outcome.{Outcome}
 use Rattle.cb_model.specs.declared.Outcome.TheVariants as outcome
 use Rattle.cb_model.specs.declared.Side.TheVariants as side
@@ -8,13 +8,11 @@ use Rattle.cb_model.specs.Outside.{Wrote}
 use Rattle.cb_model.specs.Program.{Program, bools}
 use Rattle.cb_model.specs.Derivation.{Query, Branch, Note, Entry, SoFar, printed_of}
 use Rattle.cb_model.specs.Line.{Names, IsLine}
-use Rattle.cb_model.specs.Output.{AreLines, printed_from}
+use Rattle.cb_model.specs.Output.{AreLines}
 use Rattle.cb_dd.specs.declared.Stop.TheVariants as stop
 use Rattle.cb_show.specs.declared.ShowError.{ShowError}
 use Rattle.cb_show.specs.declared.ShowError.TheVariants as show
 use Rattle.cb_show.specs.Front.{Front}
-use Rattle.cb_answer.specs.declared.Item.{Item}
-use Rattle.cb_answer.specs.declared.Item.TheVariants as item
 use Rattle.cb_answer.specs.Writing.{WroteFront, WroteLine}
 use Rattle.cb_sorts.specs.Source.{Source}
 use Rattle.cb_sorts.specs.Asked.{Asked}
@@ -24,10 +22,10 @@ use Rattle.cb_branch.specs.Lending.{left_with}
 use Rattle.cb_solve.specs.declared.Budget.{Budget}
 use Rattle.cb_solve.specs.declared.Budget.TheVariants as budget
 use Rattle.cb_solve.specs.declared.Event.{Event}
-use Rattle.cb_solve.specs.Run.{Run, IsRun, StopsAtFirst}
+use Rattle.cb_solve.specs.Run.{Run, IsRun, Begins, StopsAtFirst}
 use Rattle.cb_tell.specs.declared.Turn.{Turn}
 use Rattle.cb_tell.specs.declared.Turn.TheVariants as turn
-use Rattle.cb_tell.specs.Told.{ForNodes, QueryBegins, IsTold, BreaksOff}
+use Rattle.cb_tell.specs.Told.{ForNodes, QueryBegins, IsTold, BreaksOff, TellsOrBreaks}
 
 -- these are the lines of the first answers, of whatever beginning of the run prints as many
 abbrev pub AreFirst : Program → Query → Names → ℕ → List Text → Type 0
@@ -49,22 +47,6 @@ stop_text budget.Nodes = codes "stopped: nodes"
 abbrev pub ended_text : Bool → Text
 ended_text true = codes "no"
 ended_text false = codes "end"
-
--- the item is that of a printed variable: it has its name, and its cell
-abbrev pub IsItemOf : List ℕ → ℕ × Text → Item → Type 0
-IsItemOf made v (item.Var name cell) = (name.now ≡ v.1) × (slice_get made v.0 ≡ Some cell.0)
-
--- the same of each, in order
-abbrev pub AreItems : List ℕ → List (ℕ × Text) → List Item → Type 0
-AreItems made [] [] = Unit {0}
-AreItems made (v ∷ vs) (x ∷ xs) = IsItemOf made v x × AreItems made vs xs
-AreItems made _ _ = ⊥
-
--- the item is that of the printed variable in this place
-pub record IsItemAt (made : List ℕ) (variables : List Text) (place : ℕ) (x : Item) : Type 0 where
-  pub variable : ℕ × Text
-  pub at : slice_get (printed_from 0 variables) place ≡ Some variable
-  pub is : IsItemOf made variable x
 
 -- What was written of an answer: its line; or a front of it, since the sink failed; or nothing, since memory or nodes were
 -- wanting, and the nodes have a budget.
@@ -139,3 +121,23 @@ abbrev pub TurnTells : Source → Asked → ℕ → ℕ → Option Text → Opti
 TurnTells s a r n before after old new (Ok turn.Answered) = (new.answers ≡ old.answers + 1) × SoFarTold s a r n before after new false
 TurnTells s a r n before after old new (Ok (turn.Ended stop)) = IsTold s a r n before after stop
 TurnTells s a r n before after old new (Err o) = BreaksOff s a r n before after o
+
+-- the run is one of the query over the program that gave no answer yet
+abbrev pub HasBegun : Source → Asked → Run → Type 0
+HasBegun s a r = (resolutions : ℕ) × (nodes : ℕ) × Begins s a resolutions nodes r
+
+-- the whole is told, by the resolutions and the nodes that the run began with
+abbrev pub TellsFromBegun : Source → Asked → Run → Option Text → Option Text → Result Bool Outcome → Type 0
+TellsFromBegun s a r before after result =
+    (resolutions nodes : ℕ) → Begins s a resolutions nodes r → TellsOrBreaks s a resolutions nodes before after result
+
+-- the lines of the answers so far are written, behind what was there when the run began
+abbrev pub IsUnderWay : Source → Asked → Option Text → Run → Bool → Type 0
+IsUnderWay s a after r none =
+    (resolutions : ℕ) × (nodes : ℕ) × (before : Option Text) × SoFarTold s a resolutions nodes before after r none
+
+-- the next turn tells on behind them
+abbrev pub NextTells : Source → Asked → Bool → Option Text → Option Text → Run → Run → Result Turn Outcome → Type 0
+NextTells s a none before after old new result =
+    (resolutions nodes : ℕ) (start : Option Text) → SoFarTold s a resolutions nodes start before old none →
+    TurnTells s a resolutions nodes start after old new result

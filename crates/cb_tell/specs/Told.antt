@@ -1,5 +1,5 @@
 -- What a query prints while it runs.
-use Rattle.std.specs.Prelude.{◌≡◌, ℕ, ◌+◌, ◌≤◌, ◌⊎◌, Bool, true, List, [], ◌∷◌, ◌++◌, length, take, codes, Option, Result, Ok, Err}
+use Rattle.std.specs.Prelude.{◌≡◌, ℕ, ◌+◌, ◌≤◌, ◌⊎◌, Bool, true, List, [], ◌∷◌, ◌++◌, length, take, codes, Option, Result, Ok, Err, MatchResult}
 use Rattle.cb_model.specs.declared.Outcome.{Outcome}
 use Rattle.cb_model.specs.declared.Outcome.TheVariants as outcome
 use Rattle.cb_model.specs.declared.Side.TheVariants as side
@@ -45,6 +45,11 @@ pub record BreaksOff (s : Source) (a : Asked) (resolutions nodes : ℕ) (before 
   pub begins : ForNodes nodes (λ n. QueryBegins (asked_program s a []) (asked_query a) (asked_names s a) resolutions n text)
   pub wrote : Wrote before after text
   pub cause : (result ≡ outcome.Memory) ⊎ (result ≡ outcome.Fault side.Output)
+
+-- the lines were written, and whether a stop line was the last; or the telling broke off
+abbrev pub TellsOrBreaks : Source → Asked → ℕ → ℕ → Option Text → Option Text → Result Bool Outcome → Type 0
+TellsOrBreaks s a resolutions nodes before after result =
+    MatchResult result (IsTold s a resolutions nodes before after) (BreaksOff s a resolutions nodes before after)
 
 -- it broke off since the sink failed
 abbrev pub OutputFailed : {A : Type 0} → Result A Outcome → Type 0

@@ -1,21 +1,48 @@
 //! The line of an answer.
 
-ghost use Rattle.std.specs.Prelude.{◌≡◌, [], OnOk, Err, IfOk, IfSome, IfNone, None, length, slice_get};
+ghost use Rattle.std.specs.Prelude.{◌≡◌, [], IfOk, IfSome, IfNone, None, map, slice_get};
 ghost use Rattle.cb_model.specs.Derivation.{Branch};
 ghost use Rattle.cb_model.specs.Faults.{Counted};
 ghost use Rattle.cb_model.specs.Output.{printed_from};
-ghost use Rattle.cb_branch.specs.Running.{IsBranch};
-ghost use Rattle.cb_tell.specs.Telling.{AnswerTells, AreItems, IsAnswered, IsItemAt, IsLent, WriteFailed};
+ghost use Rattle.cb_answer.specs.Items.{AreItems};
+ghost use Rattle.cb_branch.specs.Running.{IsBranch, calls_of};
+ghost use Rattle.cb_tell.specs.Items.{AddsCalls, AreVariables, IsItemAt, call_of};
+ghost use Rattle.cb_tell.specs.Telling.{AnswerTells, IsAnswered, IsLent, WriteFailed};
 
 use crate::names::AskedNames;
 use cb_answer::{Item, answer};
 use cb_branch::branch_has_its_values;
 use cb_dd::Stop;
+use cb_heap::Ref;
 use cb_host::Sink;
-use cb_show::ShowError;
+use cb_show::{Names, ShowError};
 use cb_solve::Engine;
 use cb_sorts::{Program, Query};
 use std::alloc::{AllocError, Global};
+
+/// A goal that waits: its predicate, and the cells of its arguments.
+#[derive(Drop)]
+struct WaitingCall {
+    pred: u32,
+    args: Vec<Ref>,
+}
+
+// The goals that wait, in order.
+fn waiting_calls(
+    alloc: Global,
+    engine: &Engine<'_, '_, '_>,
+) -> Result<Vec<WaitingCall>, AllocError>
+    requires branch { (b : Branch) × IsBranch engine.now.state b }
+    ensures { IfOk result (λ all. map call_of all.items ≡ calls_of engine.now.state) }
+{
+    let mut all = Vec::new(alloc);
+    while let Some((pred, cells)) = engine.waiting(all.len()) {
+        let mut args = Vec::new(alloc);
+        args.extend_from_slice(cells)?;
+        all.push(WaitingCall { pred, args })?;
+    }
+    Ok(all)
+}
 
 // The printed variable in a place, counted from 0, with the cell of its value; `None` past the last.
 fn item<'q>(engine: &Engine<'_, '_, '_>, query: &Query<'q>, place: u32) -> Option<Item<'q>>
@@ -30,14 +57,15 @@ fn item<'q>(engine: &Engine<'_, '_, '_>, query: &Query<'q>, place: u32) -> Optio
 }
 
 // The printed variables in order, each with the cell of its value.
-fn items<'q>(
+fn variables<'q>(
     alloc: Global,
     engine: &Engine<'_, '_, '_>,
     query: &Query<'q>,
 ) -> Result<Vec<Item<'q>>, AllocError>
     requires branch { (b : Branch) × IsBranch engine.now.state b }
     requires asked { engine.now.state.query ≡ query.now }
-    ensures { IfOk result (λ all. AreItems engine.now.state.state.made (printed_from 0 query.now.variables) all.items) }
+    ensures { IfOk result (λ all. AreVariables engine.now.state.state.made
+        (printed_from 0 query.now.variables) all.items) }
 {
     let mut all = Vec::new(alloc);
     let mut place = 0u32;
@@ -49,6 +77,40 @@ fn items<'q>(
         place += 1;
     }
     Ok(all)
+}
+
+// The items with the goals that wait behind them, each by the name of its predicate.
+fn with_calls<'a>(
+    names: &'a AskedNames<'_, '_, '_>,
+    calls: &'a [WaitingCall],
+    variables: Vec<Item<'a>>,
+) -> Result<Vec<Item<'a>>, AllocError>
+    ensures { IfOk result (λ all. AddsCalls names.now.names calls.now variables.entry.items all.items) }
+{
+    let mut all = variables;
+    for call in calls {
+        let name = names.name(call.pred);
+        let args = call.args.as_slice();
+        all.push(Item::Waiting(name, args))?;
+    }
+    Ok(all)
+}
+
+// What the line of the answer tells: the printed variables in order, and behind them the goals that wait.
+fn items<'a>(
+    alloc: Global,
+    engine: &Engine<'_, '_, '_>,
+    query: &Query<'a>,
+    names: &'a AskedNames<'_, '_, '_>,
+    calls: &'a [WaitingCall],
+) -> Result<Vec<Item<'a>>, AllocError>
+    requires branch { (b : Branch) × IsBranch engine.now.state b }
+    requires asked { engine.now.state.query ≡ query.now }
+    ensures { IfOk result (λ all. AreItems engine.now.state.state.made names.now.names
+        (printed_from 0 query.now.variables) (map call_of calls.now) all.items) }
+{
+    let all = variables(alloc, engine, query)?;
+    with_calls(names, calls, all)
 }
 
 /// Writes the line of the answer that the run has come to. After want of memory or of nodes nothing is written.
@@ -64,10 +126,13 @@ pub(crate) fn tell_answer<O: Sink>(
     ensures lent { IsLent engine.old engine.new }
     ensures faults { Counted (WriteFailed result) (O.faults out.old) (O.faults out.new) }
 {
-    let Ok(items) = items(alloc, engine, query) else {
+    let Ok(calls) = waiting_calls(alloc, engine) else {
+        return Err(ShowError::Stop(Stop::Memory));
+    };
+    let names = AskedNames { program, query };
+    let Ok(items) = items(alloc, engine, query, &names, calls.as_slice()) else {
         return Err(ShowError::Stop(Stop::Memory));
     };
     branch_has_its_values();
-    let names = AskedNames { program, query };
     answer(alloc, out, engine.state(), &items, &names)
 }

@@ -1,12 +1,11 @@
 //! What a query prints while it runs.
 #![tactic(auto)]
 
-ghost use Rattle.std.specs.Prelude.{◌≡◌, ℕ, List, Option, MatchResult, length};
+ghost use Rattle.std.specs.Prelude.{◌≡◌, length};
 ghost use Rattle.cb_model.specs.Faults.{Counted};
 ghost use Rattle.cb_branch.specs.Scope.{IsRunnable};
-ghost use Rattle.cb_solve.specs.Run.{Begins};
-ghost use Rattle.cb_tell.specs.Told.{BreaksOff, IsTold, OutputFailed};
-ghost use Rattle.cb_tell.specs.Telling.{SoFarTold, TurnTells};
+ghost use Rattle.cb_tell.specs.Told.{OutputFailed, TellsOrBreaks};
+ghost use Rattle.cb_tell.specs.Telling.{HasBegun, IsUnderWay, NextTells, TellsFromBegun};
 
 mod answers;
 mod lines;
@@ -32,8 +31,9 @@ pub(crate) enum Turn {
 }
 
 /// Runs a query over a program, with at most so many resolutions and nodes, and writes each line as soon as it is found: a
-/// line for each answer, and behind them `end`, or `no` where there is none, or a stop line that names the budget. The
-/// answer is whether the last line is a stop line; or the outcome where memory was wanting or the output failed.
+/// line for each answer, which tells the printed variables and the goals that wait; and behind all of them `end`, or `no`
+/// where there is none, or a stop line that names the budget. What comes back is whether the last line is a stop line; or
+/// the outcome, where memory was wanting or the output failed.
 pub fn tell<O: Sink>(
     alloc: Global,
     program: &Program<'_>,
@@ -44,7 +44,7 @@ pub fn tell<O: Sink>(
 ) -> Result<bool, Outcome>
     requires runnable { IsRunnable program.now query.now }
     requires behind { query.now.before ≡ length program.now.names }
-    ensures told { MatchResult result (IsTold program.now query.now resolutions nodes (O.written out.old) (O.written out.new)) (BreaksOff program.now query.now resolutions nodes (O.written out.old) (O.written out.new)) }
+    ensures told { TellsOrBreaks program.now query.now resolutions nodes (O.written out.old) (O.written out.new) result }
     ensures faults { Counted (OutputFailed result) (O.faults out.old) (O.faults out.new) }
 {
     let Ok(mut engine) = Engine::new(alloc, program, query, resolutions, nodes) else {
@@ -63,9 +63,9 @@ fn tell_all<O: Sink>(
     query: &Query<'_>,
     out: &mut O,
 ) -> Result<bool, Outcome>
-    requires begins { (resolutions : ℕ) × (nodes : ℕ) × Begins program.now query.now resolutions nodes engine.old }
+    requires begins { HasBegun program.now query.now engine.old }
     requires behind { query.now.before ≡ length program.now.names }
-    ensures told { (resolutions nodes : ℕ) → Begins program.now query.now resolutions nodes engine.old → MatchResult result (IsTold program.now query.now resolutions nodes (O.written out.old) (O.written out.new)) (BreaksOff program.now query.now resolutions nodes (O.written out.old) (O.written out.new)) }
+    ensures told { TellsFromBegun program.now query.now engine.old (O.written out.old) (O.written out.new) result }
     ensures faults { Counted (OutputFailed result) (O.faults out.old) (O.faults out.new) }
 {
     let mut none = true;
@@ -87,8 +87,9 @@ fn tell_next<O: Sink>(
     none: bool,
     out: &mut O,
 ) -> Result<Turn, Outcome>
-    requires { (resolutions : ℕ) × (nodes : ℕ) × (before : Option (List ℕ)) × SoFarTold program.now query.now resolutions nodes before (O.written out.old) engine.old none }
-    ensures told { (resolutions nodes : ℕ) (before : Option (List ℕ)) → SoFarTold program.now query.now resolutions nodes before (O.written out.old) engine.old none → TurnTells program.now query.now resolutions nodes before (O.written out.new) engine.old engine.new result }
+    requires { IsUnderWay program.now query.now (O.written out.old) engine.old none }
+    ensures told { NextTells program.now query.now none (O.written out.old) (O.written out.new)
+        engine.old engine.new result }
     ensures faults { Counted (OutputFailed result) (O.faults out.old) (O.faults out.new) }
 {
     loan_keeps_the_run();

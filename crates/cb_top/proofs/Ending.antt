@@ -12,7 +12,7 @@ use Rattle.cb_model.specs.Faults.{Counted}
 use Rattle.cb_model.specs.Output.{Loaded, IsLoaded, FileRefused, long}
 use Rattle.cb_lines.specs.declared.ended.Ended.{Ended}
 use Rattle.cb_lines.specs.declared.ended.Ended.TheVariants as ended
-use Rattle.cb_lines.specs.declared.lines.TheConstants.{USAGE, UNBUILT}
+use Rattle.cb_lines.specs.declared.lines.TheConstants.{USAGE}
 use Rattle.cb_lines.specs.Ends as ends
 use Rattle.cb_lines.specs.Ends.{IsDecided, Finishes, EndsBy, EndTold, Writes, whole, broken, wanting, IsSaid, BeginsSaying, Tells, Refusing}
 use Rattle.cb_lines.proofs.Outcomes.{no-fault}

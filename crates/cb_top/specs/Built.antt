@@ -1,5 +1,5 @@
 -- What is built so far of what the program prints: `check`, `verify`, `same` and `make`, and `run` on files without facts of
--- circuits and without directives `delay` and `demon`.
+-- circuits and without directives `demon`.
 use Rattle.std.specs.Prelude.{◌≡◌, ◌⊎◌, ℕ, List, [], Option, Some, None}
 use Rattle.cb_model.specs.declared.Outcome.{Outcome}
 use Rattle.cb_model.specs.Text.{Text, IsPrefix}

@@ -32,7 +32,8 @@ pub fn chipbool<F: Files, I: Source, O: Sink>(
     input: &mut I,
     out: &mut O,
 ) -> Outcome
-    ensures prints { Prints (command_of (map string_bytes words.now)) (F.list files.old) (I.left input.old) (I.left input.new) (O.written out.old) (O.written out.new) result }
+    ensures prints { Prints (command_of (map string_bytes words.now))
+        (F.list files.old) (I.left input.old) (I.left input.new) (O.written out.old) (O.written out.new) result }
     ensures usage { HasUsage (map string_bytes words.now) result }
     ensures stopped { result ≡ Outcome.Stopped → MayStop (command_of (map string_bytes words.now)) }
     ensures input_unread { (IsRun (command_of (map string_bytes words.now)) → ⊥) → input.new ≡ input.old }
@@ -73,7 +74,8 @@ fn over_command<F: Files, I: Source, O: Sink>(
     out: &mut O,
 ) -> Outcome
     requires { MakesFew (option_map command_view command) }
-    ensures ran { Ran (option_map command_view command.entry) (F.list files.old) (I.left input.old) (I.left input.new) (O.written out.old) (O.written out.new) result }
+    ensures ran { Ran (option_map command_view command.entry)
+        (F.list files.old) (I.left input.old) (I.left input.new) (O.written out.old) (O.written out.new) result }
     ensures input_unread { (IsRun (option_map command_view command.entry) → ⊥) → input.new ≡ input.old }
     ensures file_faults { Counted (result ≡ Outcome.Fault Side.File) (F.faults files.old) (F.faults files.new) }
     ensures input_faults { Counted (result ≡ Outcome.Fault Side.Input) (I.faults input.old) (I.faults input.new) }
@@ -119,7 +121,8 @@ fn over_file<F: Files, I: Source, O: Sink>(
     input: &mut I,
     out: &mut O,
 ) -> Outcome
-    ensures ran { Ran (Some (command_over file.now (task_view task.entry))) (F.list files.old) (I.left input.old) (I.left input.new) (O.written out.old) (O.written out.new) result }
+    ensures ran { Ran (Some (command_over file.now (task_view task.entry)))
+        (F.list files.old) (I.left input.old) (I.left input.new) (O.written out.old) (O.written out.new) result }
     ensures input_unread { (ReadsInput (task_view task.entry) → ⊥) → input.new ≡ input.old }
     ensures file_faults { Counted (result ≡ Outcome.Fault Side.File) (F.faults files.old) (F.faults files.new) }
     ensures input_faults { Counted (result ≡ Outcome.Fault Side.Input) (I.faults input.old) (I.faults input.new) }
@@ -140,7 +143,8 @@ fn over_bytes<I: Source, O: Sink>(
     out: &mut O,
 ) -> Outcome
     requires { length bytes.now ≤ 4194304 }
-    ensures says { BytesRun (task_view task.entry) bytes.now (I.left input.old) (I.left input.new) (O.written out.old) (O.written out.new) result }
+    ensures says { BytesRun (task_view task.entry) bytes.now
+        (I.left input.old) (I.left input.new) (O.written out.old) (O.written out.new) result }
     ensures input_unread { (ReadsInput (task_view task.entry) → ⊥) → input.new ≡ input.old }
     ensures input_faults { Counted (result ≡ Outcome.Fault Side.Input) (I.faults input.old) (I.faults input.new) }
     ensures output_faults { Counted (result ≡ Outcome.Fault Side.Output) (O.faults out.old) (O.faults out.new) }
@@ -164,7 +168,8 @@ fn over_accepted<I: Source, O: Sink>(
     out: &mut O,
 ) -> Outcome
     requires { IsAccepted file.now }
-    ensures says { TaskRun (task_view task.entry) (holds file.now) (I.left input.old) (I.left input.new) (O.written out.old) (O.written out.new) result }
+    ensures says { TaskRun (task_view task.entry) (holds file.now)
+        (I.left input.old) (I.left input.new) (O.written out.old) (O.written out.new) result }
     ensures input_unread { (ReadsInput (task_view task.entry) → ⊥) → input.new ≡ input.old }
     ensures input_faults { Counted (result ≡ Outcome.Fault Side.Input) (I.faults input.old) (I.faults input.new) }
     ensures output_faults { Counted (result ≡ Outcome.Fault Side.Output) (O.faults out.old) (O.faults out.new) }

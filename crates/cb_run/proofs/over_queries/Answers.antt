@@ -10,7 +10,7 @@ pub over_asked-requires : goal.over_asked-requires
 over_asked-requires g c =
     let p = c.requires.program in
     subst (Each (CanTell c.args.program.now)) (sym c.as_slice.ensures.value)
-    (all-can-tell c.plain_files_never_wait.ensures c.accepted_can_run.ensures p.cs c.args.program.now p.over (map query_form c.args.raw.now) c.in-Ok.queries.items (c.in-Ok.ensures.asked p.cs p.over)
+    (all-can-tell c.plain_files_never_commit.ensures c.accepted_can_run.ensures p.cs c.args.program.now p.over (map query_form c.args.raw.now) c.in-Ok.queries.items (c.in-Ok.ensures.asked p.cs p.over)
     c.requires.written.few_goals)
 
 pub returns-in-Ok-clause-says : goal.returns-in-Ok-clause-says

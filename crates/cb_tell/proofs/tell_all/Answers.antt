@@ -1,4 +1,4 @@
-use Rattle.std.proofs.Common.{Result, Ok, refl, ◌∙◌, ap, subst, false}
+use Rattle.std.proofs.Common.{Result, Ok, refl, ◌∙◌, ap, subst}
 use Rattle.cb_model.specs.declared.Outcome.{Outcome}
 use Rattle.cb_tell.specs.declared.Turn.{Turn}
 use Rattle.cb_tell.specs.Telling.{TurnTells}

@@ -1,5 +1,5 @@
-use Rattle.std.proofs.Common.{rules, ◌≡◌, ℕ, ◌+◌, ◌-◌, ◌*◌, ◌<◌, ◌≤◌, length, ◌/◌, ◌%◌, Bool, true, false, nat_eq, nat_lt, List, [], ◌∷◌, ◌++◌, slice_index_or, slice_set, bit_and, bit_or, Fits, w8, w32, w64, Bor, MutBor}
-use Rattle.std.proofs.Common.{subst, sym, ap, ◌∙◌, arith}
+use Rattle.std.proofs.Common.{◌≡◌, [], slice_index_or}
+use Rattle.std.proofs.Common.{subst, arith}
 use Rattle.cb_model.specs.Line.{Names}
 use Rattle.cb_tell.proofs.Looked.{own-name, no-name}
 use Rattle.cb_tell.proofs.names.AskedNamesNames.name.Goals as goal
