@@ -1,5 +1,5 @@
 -- An accepted file that has nothing which `run` doesn't take yet.
-use Rattle.std.proofs.Common.{◌≡◌, Bool, true, false, ◌||◌, List, [], ◌∷◌, map, None, refl, sym, ap, subst, ◌∙◌}
+use Rattle.std.proofs.Common.{◌≡◌, Bool, true, false, ◌||◌, List, [], ◌∷◌, map, refl, sym, ap, subst, ◌∙◌}
 use Rattle.std.proofs.lemmas.Bool.{true≢false}
 use Rattle.cb_accept.specs.Refusals.{without_circuits}
 use Rattle.cb_accept.specs.File.{forms, holds, IsAccepted}

@@ -28,10 +28,7 @@ struct WaitingCall {
 }
 
 // The goals that wait, in order.
-fn waiting_calls(
-    alloc: Global,
-    engine: &Engine<'_, '_, '_>,
-) -> Result<Vec<WaitingCall>, AllocError>
+fn waiting_calls(alloc: Global, engine: &Engine<'_, '_, '_>) -> Result<Vec<WaitingCall>, AllocError>
     requires branch { (b : Branch) × IsBranch engine.now.state b }
     ensures { IfOk result (λ all. map call_of all.items ≡ calls_of engine.now.state) }
 {
