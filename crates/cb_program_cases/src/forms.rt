@@ -2,6 +2,7 @@
 
 ghost use Rattle.std.specs.Prelude.{◌≤◌, length};
 
+use crate::tell_unread;
 use cb_model::{RawClause, RawGoal, RawQuery, RawTerm};
 use cb_syntax::{read_clauses, read_queries};
 use cb_trial::text::{push, push_number};
@@ -18,7 +19,7 @@ pub fn tell_clauses(alloc: Global, source: &[u8], out: &mut Vec<u8>) -> Result<(
             drop(clauses);
             told
         }
-        Err(error) => push(out, format!(in alloc; "{error:?}\n")?.as_str()),
+        Err(error) => tell_unread(alloc, &error, out),
     }
 }
 
@@ -32,7 +33,7 @@ pub fn tell_queries(alloc: Global, source: &[u8], out: &mut Vec<u8>) -> Result<(
             drop(queries);
             told
         }
-        Err(error) => push(out, format!(in alloc; "{error:?}\n")?.as_str()),
+        Err(error) => tell_unread(alloc, &error, out),
     }
 }
 
