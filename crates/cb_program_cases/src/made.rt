@@ -83,13 +83,18 @@ fn tell_read(alloc: Global, text: &[u8], out: &mut Vec<u8>) -> Result<(), Fail> 
     }
     match read_clauses(alloc, text) {
         Ok(clauses) => {
-            let count = i64::try_from(clauses.len()).unwrap_or(0);
+            let told = push_count(alloc, out, clauses.len());
             drop(clauses);
-            push_number(alloc, out, count)?;
-            push(out, " clauses\n")
+            told
         }
         Err(error) => tell_unread(alloc, &error, out),
     }
+}
+
+// Appends how many clauses there are.
+fn push_count(alloc: Global, out: &mut Vec<u8>, count: usize) -> Result<(), Fail> {
+    push_number(alloc, out, i64::try_from(count).unwrap_or(0))?;
+    push(out, " clauses\n")
 }
 
 // `p(` and the first word so many times, the second, and the third so many times; in the second `;` is a new line.

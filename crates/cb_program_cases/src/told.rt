@@ -1,6 +1,6 @@
 //! Programs and queries over them.
 
-ghost use Rattle.std.specs.Prelude.{◌≡◌, ◌≤◌, true, length, map};
+ghost use Rattle.std.specs.Prelude.{◌≡◌, ◌<◌, ◌≤◌, true, length, map};
 ghost use Rattle.cb_model.specs.Forms.{clause_form, query_form};
 ghost use Rattle.cb_model.specs.Written.{AreClauses, query_written};
 
@@ -105,7 +105,7 @@ fn push_program(alloc: Global, out: &mut Vec<u8>, loaded: &Program<'_>) -> Resul
     Ok(())
 }
 
-// Appends a clause, the sorts of its variables, and what is known of its predicate.
+// Appends a clause, the sorts of its variables, what is known of its predicate, and the next clause of that.
 fn push_clause(
     alloc: Global,
     out: &mut Vec<u8>,
@@ -115,23 +115,43 @@ fn push_clause(
     if number >= loaded.clauses() {
         return Ok(());
     }
+    let clause = loaded.clause(number);
+    push_rule(alloc, out, loaded, &clause)?;
+    push_sorts(alloc, out, clause.sorts)?;
+    push_predicate(alloc, out, loaded, &clause)?;
+    push_place(alloc, out, (", next ", ", last"), loaded.after(number))
+}
+
+// Appends the head and the body of a clause.
+fn push_rule(
+    alloc: Global,
+    out: &mut Vec<u8>,
+    loaded: &Program<'_>,
+    clause: &ClauseView<'_>,
+) -> Result<(), Fail> {
     let names = Names {
         program: loaded,
         query: None,
     };
-    let clause = loaded.clause(number);
     names.push(out, clause.pred)?;
     push_trees(alloc, out, &names, clause.head)?;
     push(out, " :- ")?;
-    push_goals(alloc, out, &names, clause.body)?;
-    push_sorts(alloc, out, clause.sorts)?;
-    push_predicate(alloc, out, loaded, &clause)?;
-    match loaded.after(number) {
-        Some(next) => {
-            push(out, ", next ")?;
-            push_number(alloc, out, i64::from(next))
+    push_goals(alloc, out, &names, clause.body)
+}
+
+// Appends a clause's number behind the first word, or the second where there is none.
+fn push_place(
+    alloc: Global,
+    out: &mut Vec<u8>,
+    words: (&str, &str),
+    clause: Option<u32>,
+) -> Result<(), Fail> {
+    match clause {
+        Some(number) => {
+            push(out, words.0)?;
+            push_number(alloc, out, i64::from(number))
         }
-        None => push(out, ", last"),
+        None => push(out, words.1),
     }
 }
 
@@ -156,21 +176,38 @@ fn push_predicate(
     if clause.pred as usize >= loaded.names() {
         return Ok(());
     }
-    if loaded.demon(clause.pred) {
-        push(out, " demon")?;
-    }
-    for place in 0..clause.head.len() {
-        let when = loaded.when(clause.pred, u32::try_from(place).unwrap_or(u32::MAX));
+    push(
+        out,
+        if loaded.demon(clause.pred) {
+            " demon"
+        } else {
+            ""
+        },
+    )?;
+    push_whens(alloc, out, loaded, (clause.pred, clause.head.len()))?;
+    push_place(
+        alloc,
+        out,
+        ("; first ", "; none"),
+        loaded.first(clause.pred),
+    )
+}
+
+// Appends what the arguments of a predicate have to be, of which there are so many.
+fn push_whens(
+    alloc: Global,
+    out: &mut Vec<u8>,
+    loaded: &Program<'_>,
+    pred: (u32, usize),
+) -> Result<(), Fail>
+    requires { pred.0 < length loaded.now.names }
+{
+    for place in 0..pred.1 {
+        let when = loaded.when(pred.0, u32::try_from(place).unwrap_or(u32::MAX));
         push(out, " ")?;
         push_debug(alloc, out, &when)?;
     }
-    match loaded.first(clause.pred) {
-        Some(first) => {
-            push(out, "; first ")?;
-            push_number(alloc, out, i64::from(first))
-        }
-        None => push(out, "; none"),
-    }
+    Ok(())
 }
 
 // Writes what the first query of a text asks of a program, or its refusal. The text may live shorter than that of the
@@ -223,40 +260,51 @@ fn push_query<'s>(
     loaded: &Program<'s>,
     query: &Query<'s>,
 ) -> Result<(), Fail> {
-    let names = Names {
-        program: loaded,
-        query: Some(query),
-    };
-    push_goals(alloc, out, &names, query.goals())?;
+    push_asked(alloc, out, loaded, query)?;
     push_sorts(alloc, out, query.sorts())?;
-    push(out, "; prints")?;
-    for place in 0..query.printed_count() {
-        if let Some((number, name)) = query.printed(u32::try_from(place).unwrap_or(u32::MAX)) {
-            push(out, " ")?;
-            out.extend_from_slice(name)?;
-            push_number(alloc, out, i64::from(number))?;
-        }
-    }
-    push_own(alloc, out, loaded, query)
+    push_printed(alloc, out, query)?;
+    push_own(out, loaded.names(), query)
 }
 
-// Appends the names that are the query's own, from the last of the program on.
-fn push_own<'s>(
+// Appends the goals of a query.
+fn push_asked<'s>(
     alloc: Global,
     out: &mut Vec<u8>,
     loaded: &Program<'s>,
     query: &Query<'s>,
 ) -> Result<(), Fail> {
-    push(out, "; own")?;
-    let last = loaded.names().saturating_sub(1).min(100) as u32;
-    for number in last..last + 4 {
-        match query.name(number) {
-            Some(name) => {
-                push(out, " ")?;
-                out.extend_from_slice(name)?;
-            }
-            None => push(out, " -")?,
+    let names = Names {
+        program: loaded,
+        query: Some(query),
+    };
+    push_goals(alloc, out, &names, query.goals())
+}
+
+// Appends the variables of a query that are printed, with their numbers.
+fn push_printed(alloc: Global, out: &mut Vec<u8>, query: &Query<'_>) -> Result<(), Fail> {
+    push(out, "; prints")?;
+    for place in 0..query.printed_count() {
+        if let Some((number, name)) = query.printed(u32::try_from(place).unwrap_or(u32::MAX)) {
+            push_variable(alloc, out, name, number)?;
         }
+    }
+    Ok(())
+}
+
+// Appends a variable of a query with its number.
+fn push_variable(alloc: Global, out: &mut Vec<u8>, name: &[u8], number: u32) -> Result<(), Fail> {
+    push(out, " ")?;
+    out.extend_from_slice(name)?;
+    push_number(alloc, out, i64::from(number))
+}
+
+// Appends the names that are the query's own, from the last of the program's so many on.
+fn push_own(out: &mut Vec<u8>, names: usize, query: &Query<'_>) -> Result<(), Fail> {
+    push(out, "; own")?;
+    let last = names.saturating_sub(1).min(100) as u32;
+    for number in last..last + 4 {
+        push(out, " ")?;
+        out.extend_from_slice(query.name(number).unwrap_or(b"-"))?;
     }
     push(out, "\n")
 }
