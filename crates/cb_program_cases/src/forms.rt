@@ -2,6 +2,7 @@
 
 ghost use Rattle.std.specs.Prelude.{◌≤◌, length};
 
+use crate::tell_unread;
 use cb_model::{RawClause, RawGoal, RawQuery, RawTerm};
 use cb_syntax::{read_clauses, read_queries};
 use cb_trial::text::{push, push_number};
@@ -18,7 +19,7 @@ pub fn tell_clauses(alloc: Global, source: &[u8], out: &mut Vec<u8>) -> Result<(
             drop(clauses);
             told
         }
-        Err(error) => push(out, format!(in alloc; "{error:?}\n")?.as_str()),
+        Err(error) => tell_unread(alloc, &error, out),
     }
 }
 
@@ -32,7 +33,7 @@ pub fn tell_queries(alloc: Global, source: &[u8], out: &mut Vec<u8>) -> Result<(
             drop(queries);
             told
         }
-        Err(error) => push(out, format!(in alloc; "{error:?}\n")?.as_str()),
+        Err(error) => tell_unread(alloc, &error, out),
     }
 }
 
@@ -105,22 +106,14 @@ fn push_goals(alloc: Global, out: &mut Vec<u8>, goals: &[RawGoal<'_>]) -> Result
 #[cycle(form)]
 fn push_form(alloc: Global, out: &mut Vec<u8>, term: &RawTerm<'_>) -> Result<(), Fail> {
     match term {
-        RawTerm::Variable(name) => {
-            push(out, "?")?;
-            out.extend_from_slice(*name)?;
-            Ok(())
-        }
+        RawTerm::Variable(name) => push_variable(out, *name),
         RawTerm::Integer(value) => push_number(alloc, out, *value),
         RawTerm::Name(name, parts) => push_name(alloc, out, *name, parts.as_slice()),
-        RawTerm::List(parts, tail) => {
+        RawTerm::List(parts, None) => push_name(alloc, out, b"list", parts.as_slice()),
+        RawTerm::List(parts, Some(tail)) => {
             push_name(alloc, out, b"list", parts.as_slice())?;
-            match tail {
-                Some(tail) => {
-                    push(out, "|")?;
-                    push_form(alloc, out, tail.get())
-                }
-                None => Ok(()),
-            }
+            push(out, "|")?;
+            push_form(alloc, out, tail.get())
         }
         RawTerm::Not(part) => {
             push(out, "not ")?;
@@ -130,6 +123,13 @@ fn push_form(alloc: Global, out: &mut Vec<u8>, term: &RawTerm<'_>) -> Result<(),
         RawTerm::Xor(parts) => push_name(alloc, out, b"xor", parts.as_slice()),
         RawTerm::Or(parts) => push_name(alloc, out, b"or", parts.as_slice()),
     }
+}
+
+// Appends a variable.
+fn push_variable(out: &mut Vec<u8>, name: &[u8]) -> Result<(), Fail> {
+    push(out, "?")?;
+    out.extend_from_slice(name)?;
+    Ok(())
 }
 
 // Appends a name and the forms of its parts, each with a space behind it.

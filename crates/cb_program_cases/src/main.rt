@@ -3,8 +3,6 @@
 //! the language.
 #![tactic(auto)]
 
-ghost use Rattle.std.specs.Prelude.{◌≤◌, length};
-
 mod forms;
 mod made;
 mod tokens;
@@ -12,22 +10,51 @@ mod told;
 mod trees;
 
 use cb_directives::LoadError;
-use cb_sorts::{Program, load};
-use cb_syntax::{ReadError, read_clauses};
+use cb_forms::texts::{push_debug, push_plain};
+use cb_syntax::ReadError;
 use cb_trial::escaped;
+use cb_trial::text::push;
 use std::alloc::Global;
 use std::io::Write;
 use std::test::Fail;
 use std::{fs, io};
+use told::What;
 
 fn main(rt: HostRuntime) -> Result<(), Fail> {
-    let cases = fs::read_to_string(&rt, "cases.txt")?;
     let mut out = Vec::new(rt.alloc());
+    let told = tell_cases(rt, &mut out);
+    let ended = finish(rt, told, out.as_slice());
+    drop(out);
+    ended
+}
+
+// Prints what was told, if all was.
+fn finish(rt: HostRuntime, told: Result<(), Fail>, out: &[u8]) -> Result<(), Fail> {
+    told?;
+    io::writer(&rt).write_all(out)?;
+    Ok(())
+}
+
+// Writes what the lines of the cases ask for.
+fn tell_cases(rt: HostRuntime, out: &mut Vec<u8>) -> Result<(), Fail> {
+    let cases = fs::read_to_string(&rt, "cases.txt")?;
     let mut file = Vec::new(rt.alloc());
+    let told = tell_lines(rt.alloc(), cases.as_str(), &mut file, out);
+    drop(file);
+    drop(cases);
+    told
+}
+
+// Writes what lines ask for. The text of a line with the word `program` is kept for the lines with `ask` behind it.
+fn tell_lines(
+    alloc: Global,
+    cases: &str,
+    file: &mut Vec<u8>,
+    out: &mut Vec<u8>,
+) -> Result<(), Fail> {
     for line in cases.lines() {
-        tell(rt.alloc(), line, &mut file, &mut out)?;
+        tell(alloc, line, file, out)?;
     }
-    io::writer(&rt).write_all(&out)?;
     Ok(())
 }
 
@@ -36,26 +63,30 @@ fn tell(alloc: Global, line: &str, file: &mut Vec<u8>, out: &mut Vec<u8>) -> Res
     let Some((word, rest)) = line.split_once(' ') else {
         return Ok(());
     };
+    if word == "program" {
+        file.clear();
+        push_plain(alloc, file, rest)?;
+    }
     let source = escaped::plain(alloc, rest)?;
-    let told = tell_source(alloc, (word, rest), source.as_slice(), file, out);
+    let told = tell_source(
+        alloc,
+        (word, rest),
+        (source.as_slice(), file.as_slice()),
+        out,
+    );
     drop(source);
     told
 }
 
-// Writes what a line with a word asks of a text. The text of a line with the word `program` is kept for the lines with
-// `ask` behind it.
+// Writes what a line with a word asks of its text, or of the text that was kept before it.
 fn tell_source(
     alloc: Global,
     line: (&str, &str),
-    source: &[u8],
-    file: &mut Vec<u8>,
+    texts: (&[u8], &[u8]),
     out: &mut Vec<u8>,
 ) -> Result<(), Fail> {
     let (word, rest) = line;
-    if word == "program" {
-        file.clear();
-        file.extend_from_slice(source)?;
-    }
+    let (source, file) = texts;
     if source.len() > 4_194_304 || file.len() > 4_194_304 {
         return Ok(());
     }
@@ -63,19 +94,21 @@ fn tell_source(
         "tokens" => tokens::tell(alloc, source, out),
         "clauses" => forms::tell_clauses(alloc, source, out),
         "queries" => forms::tell_queries(alloc, source, out),
-        "load" => told::tell_count(alloc, source, out),
-        "program" => told::tell_program(alloc, source, out),
-        "ask" => told::tell_query(alloc, file.as_slice(), source, out),
+        "load" => told::tell(alloc, source, What::Count, out),
+        "program" => told::tell(alloc, source, What::Program, out),
+        "ask" => told::tell(alloc, file, What::Query(source), out),
         _ => made::tell(alloc, word, rest, out),
     }
 }
 
-// The program of a file.
-fn program<'s>(alloc: Global, text: &'s [u8]) -> Result<Result<Program<'s>, LoadError>, ReadError>
-    requires { length text.now ≤ 4194304 }
-{
-    let clauses = read_clauses(alloc, text)?;
-    let loaded = load(alloc, clauses.as_slice());
-    drop(clauses);
-    Ok(loaded)
+// Writes why a text is refused.
+fn tell_unread(alloc: Global, error: &ReadError, out: &mut Vec<u8>) -> Result<(), Fail> {
+    push_debug(alloc, out, error)?;
+    push(out, "\n")
+}
+
+// Writes why a program or a query is refused.
+fn tell_unloaded(alloc: Global, error: &LoadError, out: &mut Vec<u8>) -> Result<(), Fail> {
+    push_debug(alloc, out, error)?;
+    push(out, "\n")
 }

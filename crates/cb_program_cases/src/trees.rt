@@ -15,17 +15,20 @@ pub struct Names<'a, 's> {
 }
 
 impl<'a, 's> Names<'a, 's> {
+    // The name under a number, or `?`.
+    fn name(&self, number: u32) -> &'s [u8] {
+        if (number as usize) < self.program.names() {
+            return self.program.name(number);
+        }
+        match self.query {
+            Some(query) => query.name(number).unwrap_or(b"?"),
+            None => b"?",
+        }
+    }
+
     /// Appends the name under a number, or `?`.
     pub fn push(&self, out: &mut Vec<u8>, number: u32) -> Result<(), Fail> {
-        if (number as usize) < self.program.names() {
-            out.extend_from_slice(self.program.name(number))?;
-            return Ok(());
-        }
-        let own = match self.query {
-            Some(query) => query.name(number),
-            None => None,
-        };
-        out.extend_from_slice(own.unwrap_or(b"?"))?;
+        out.extend_from_slice(self.name(number))?;
         Ok(())
     }
 }
