@@ -1,12 +1,12 @@
 //! Runs one after another, with the file, the input and the failing calls that were set before them.
 
-use crate::circuits::{adder_file, comparator_file, row_file, tower_file};
-use crate::deep::{chain_file, constants_file, product_query};
+use crate::circuits::{push_adder, push_comparator, push_row, push_tower};
+use crate::deep::{push_chain, push_constants, push_product};
+use cb_forms::texts::{push_numbered, push_plain};
 use cb_host::{Load, MemFiles, MemSink, MemSource, read_within};
 use cb_top::chipbool;
-use cb_trial::escaped::plain;
+use cb_trial::text::push;
 use std::alloc::Global;
-use std::io::Write;
 use std::test::Fail;
 
 /// What is set for the next runs, and what was written so far.
@@ -37,23 +37,30 @@ impl Session {
     pub fn take(&mut self, alloc: Global, line: &str) -> Result<(), Fail> {
         let (word, rest) = line.split_once(' ').unwrap_or((line, ""));
         match word {
-            "file" => self.file = plain(alloc, rest)?,
-            "input" => self.input = plain(alloc, rest)?,
-            "file_of_spaces" => self.file = spaces(alloc, rest)?,
-            "input_of_spaces" => self.input = spaces(alloc, rest)?,
-            "file_of_chain" => self.file = chain(alloc, rest)?,
-            "file_of_tower" => self.file = bytes(alloc, tower_file(alloc, count(rest))?)?,
-            "file_of_comparator" => self.file = comparator(alloc, rest)?,
-            "file_of_adder" => self.file = adder(alloc, rest)?,
-            "file_of_row" => self.file = row(alloc, rest)?,
-            "file_of_constants" => self.file = constants_file(alloc, count(rest))?,
-            "input_of_product" => self.input = product_query(alloc, count(rest))?,
-            "failing_read" => self.read = number(rest),
-            "failing_write" => self.write = number(rest),
-            "words" => self.run(alloc, rest)?,
-            "long_words" => self.run_long(alloc, rest)?,
-            "each_write" => self.run_with_each_write(alloc, rest)?,
-            _ => (),
+            "failing_read" => {
+                self.read = number(rest);
+                Ok(())
+            }
+            "failing_write" => {
+                self.write = number(rest);
+                Ok(())
+            }
+            "words" => self.run(alloc, rest),
+            "long_words" => self.run_long(alloc, rest),
+            "each_write" => self.run_with_each_write(alloc, rest),
+            _ => self.set(alloc, word, rest),
+        }
+    }
+
+    // Sets the file or the input; another word says nothing.
+    fn set(&mut self, alloc: Global, word: &str, rest: &str) -> Result<(), Fail> {
+        if word.starts_with("file") {
+            self.file.clear();
+            return push_file(alloc, &mut self.file, word, rest);
+        }
+        if word.starts_with("input") {
+            self.input.clear();
+            return push_input(alloc, &mut self.input, word, rest);
         }
         Ok(())
     }
@@ -74,8 +81,9 @@ impl Session {
         drop(input);
         let status = status?;
         self.out.extend_from_slice(out.written())?;
-        writeln!(self.out, "status {status}, left {rest}")?;
-        Ok(())
+        push_numbered(&mut self.out, "status ", u32::from(status))?;
+        push_numbered(&mut self.out, ", left ", rest)?;
+        push(&mut self.out, "\n")
     }
 
     // Runs words, and writes the first 40 bytes of what they print, how many bytes that is, and their status.
@@ -92,8 +100,13 @@ impl Session {
         let printed = out.written();
         let length = printed.len();
         self.out.extend_from_slice(&printed[..length.min(40)])?;
-        writeln!(self.out, "|{length} bytes, status {status}")?;
-        Ok(())
+        push_numbered(
+            &mut self.out,
+            "|",
+            u32::try_from(length).unwrap_or(u32::MAX),
+        )?;
+        push_numbered(&mut self.out, " bytes, status ", u32::from(status))?;
+        push(&mut self.out, "\n")
     }
 
     // Runs words over a sink that takes a byte a call, with the first write failing, the second, and so on until the run
@@ -119,7 +132,8 @@ impl Session {
     fn run_short_into(&mut self, alloc: Global, line: &str, out: &mut MemSink) -> Result<u8, Fail> {
         let status = self.status(alloc, line, out)?;
         self.out.extend_from_slice(out.written())?;
-        writeln!(self.out, "|{status}")?;
+        push_numbered(&mut self.out, "|", u32::from(status))?;
+        push(&mut self.out, "\n")?;
         Ok(status)
     }
 
@@ -181,65 +195,82 @@ fn status_over(
 // The files of a run: `F` with these bytes.
 fn files(alloc: Global, file: &[u8]) -> Result<MemFiles, Fail> {
     let mut list = Vec::new(alloc);
-    list.push((String::from_str(alloc, "F")?, Vec::from_slice(alloc, file)?))?;
-    Ok(MemFiles::new(list, Vec::new(alloc)))
+    match push_file_entry(alloc, &mut list, file) {
+        Ok(()) => Ok(MemFiles::new(list, Vec::new(alloc))),
+        Err(failed) => {
+            drop(list);
+            Err(failed)
+        }
+    }
+}
+
+// Appends the entry of the file `F`.
+fn push_file_entry(
+    alloc: Global,
+    list: &mut Vec<(String, Vec<u8>)>,
+    file: &[u8],
+) -> Result<(), Fail> {
+    let name = String::from_str(alloc, "F")?;
+    let bytes = Vec::from_slice(alloc, file)?;
+    list.push((name, bytes))?;
+    Ok(())
 }
 
 // How many bytes are left of an input, one of whose calls may still fail.
-fn rest_of(alloc: Global, input: &mut MemSource) -> usize {
+fn rest_of(alloc: Global, input: &mut MemSource) -> u32 {
     let mut rest = Vec::new(alloc);
     if read_within(input, &mut rest, 4_294_967_295) == Load::Failed {
         read_within(input, &mut rest, 4_294_967_295);
     }
-    rest.len()
+    let count = u32::try_from(rest.len()).unwrap_or(u32::MAX);
+    drop(rest);
+    count
 }
 
-// So many spaces.
-fn spaces(alloc: Global, text: &str) -> Result<Vec<u8>, Fail> {
-    let spaces = vec![in alloc; b' '; count(text) as usize]?;
-    Ok(spaces)
+// Appends the input that a word makes of the words behind it: as it stands there, so many spaces, or a query for a product
+// of so many constants.
+fn push_input(alloc: Global, input: &mut Vec<u8>, word: &str, rest: &str) -> Result<(), Fail> {
+    match word {
+        "input" => push_plain(alloc, input, rest),
+        "input_of_spaces" => push_spaces(input, count(rest)),
+        "input_of_product" => push_product(alloc, input, count(rest)),
+        _ => Ok(()),
+    }
 }
 
-// The file of a chain of gates: the gate, how many inputs, and `right` or `wrong`.
-fn chain(alloc: Global, rest: &str) -> Result<Vec<u8>, Fail> {
-    let (gate, more) = rest.split_once(' ').unwrap_or((rest, ""));
-    let (inputs, kind) = more.split_once(' ').unwrap_or((more, ""));
-    chain_file(alloc, gate, count(inputs), kind == "right")
+// Appends the file that a word makes of the words behind it: as it stands there, so many spaces, so many constants, a tower
+// of so many modules, or a circuit.
+fn push_file(alloc: Global, file: &mut Vec<u8>, word: &str, rest: &str) -> Result<(), Fail> {
+    match word {
+        "file" => push_plain(alloc, file, rest),
+        "file_of_spaces" => push_spaces(file, count(rest)),
+        "file_of_constants" => push_constants(alloc, file, count(rest)),
+        "file_of_tower" => push_tower(alloc, file, count(rest)),
+        _ => push_circuit(alloc, file, word, rest),
+    }
 }
 
-// The file of a comparator: how many bits, and `right` or `wrong`.
-fn comparator(alloc: Global, rest: &str) -> Result<Vec<u8>, Fail> {
-    let (width, kind) = rest.split_once(' ').unwrap_or((rest, ""));
-    bytes(
-        alloc,
-        comparator_file(alloc, count(width), kind == "right")?,
-    )
+// Appends the file of a circuit: of a chain of gates with the gate, how many inputs, and `right` or `wrong`; of a comparator
+// with how many bits, and `right` or `wrong`; of an adder with how many bits, the bit whose carry takes A, and the one whose
+// carry takes B; of a row of gates against 0 with the gate, how many inputs, and `turned` where the ports run the other way.
+fn push_circuit(alloc: Global, file: &mut Vec<u8>, word: &str, rest: &str) -> Result<(), Fail> {
+    let (first, more) = rest.split_once(' ').unwrap_or((rest, ""));
+    let (second, third) = more.split_once(' ').unwrap_or((more, ""));
+    match word {
+        "file_of_chain" => push_chain(alloc, file, first, count(second), third == "right"),
+        "file_of_comparator" => push_comparator(alloc, file, count(first), second == "right"),
+        "file_of_adder" => push_adder(alloc, file, count(first), (count(second), count(third))),
+        "file_of_row" => push_row(alloc, file, first, count(second), third == "turned"),
+        _ => Ok(()),
+    }
 }
 
-// The file of an adder: how many bits, the bit whose carry takes A, and the one whose carry takes B.
-fn adder(alloc: Global, rest: &str) -> Result<Vec<u8>, Fail> {
-    let (width, more) = rest.split_once(' ').unwrap_or((rest, ""));
-    let (with_a, with_b) = more.split_once(' ').unwrap_or((more, ""));
-    bytes(
-        alloc,
-        adder_file(alloc, count(width), count(with_a), count(with_b))?,
-    )
-}
-
-// The file of a row of gates against 0: the gate, how many inputs, and `turned` where the ports run the other way.
-fn row(alloc: Global, rest: &str) -> Result<Vec<u8>, Fail> {
-    let (gate, more) = rest.split_once(' ').unwrap_or((rest, ""));
-    let (inputs, kind) = more.split_once(' ').unwrap_or((more, ""));
-    bytes(
-        alloc,
-        row_file(alloc, gate, count(inputs), kind == "turned")?,
-    )
-}
-
-// The bytes of a text.
-fn bytes(alloc: Global, text: String) -> Result<Vec<u8>, Fail> {
-    let bytes = Vec::from_slice(alloc, text.as_bytes())?;
-    Ok(bytes)
+// Appends so many spaces.
+fn push_spaces(bytes: &mut Vec<u8>, count: u32) -> Result<(), Fail> {
+    for _ in 0..count {
+        bytes.push(b' ')?;
+    }
+    Ok(())
 }
 
 fn count(text: &str) -> u32 {
