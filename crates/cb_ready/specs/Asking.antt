@@ -1,12 +1,13 @@
 -- Which of the calls that were parked are ready, over a state that stays.
 use Rattle.std.specs.Prelude.{◌≡◌, ℕ, ◌<◌, List, [], length, Some, slice_get}
 use Rattle.std.proofs.Common.{refl, sym, ap, subst, ◌∙◌}
-use Rattle.cb_model.specs.Bits.{Each}
+use Rattle.cb_model.specs.Bits.{Each, Parts}
 use Rattle.cb_model.specs.Derivation.{words_of}
 use Rattle.cb_sorts.specs.Source.{Source}
 use Rattle.cb_sorts.specs.Asked.{Asked}
 use Rattle.cb_sorts.specs.OverFile.{asked_program}
 use Rattle.cb_unify.specs.State.{Seen, FitsTable, IsState}
+use Rattle.cb_wake.specs.Waits.{Waits, waiting}
 use Rattle.cb_ready.specs.Parked.{Parked}
 use Rattle.cb_ready.specs.Ready.{AllHold}
 
@@ -38,6 +39,10 @@ pub record IsReadyAt (a : Asking) (k : ℕ) : Type 0 where
   pub call : Parked
   pub is : slice_get a.parked k ≡ Some call
   pub hold : AllHold (asked_program a.program a.query []).world.arguments a.state (words_of (asked_program a.program a.query []) call.pred) call.args
+
+-- of the waiting calls those that are ready were taken, and the others wait
+abbrev pub TakesReady : Seen → Source → Asked → List Parked → Waits → List ℕ → Waits → Type 0
+TakesReady s p q cs old ks new = Parts (IsReadyAt (asking s p q cs)) (waiting old) ks (waiting new)
 
 -- the same, but for how many were asked about
 abbrev pub IsSameAsking : Asking → Asking → Type 0

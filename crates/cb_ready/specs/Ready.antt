@@ -1,5 +1,5 @@
 -- When a call is ready, by the cells of its arguments.
-use Rattle.std.specs.Prelude.{◌≡◌, ◌↔◌, ℕ, ◌-◌, ◌^◌, ◌<◌, ◌≤◌, Bool, false, List, [], length, get_or, Some, slice_get, IsTrue}
+use Rattle.std.specs.Prelude.{◌≡◌, ◌≢◌, ◌↔◌, ℕ, ◌-◌, ◌^◌, ◌<◌, ◌≤◌, Bool, false, List, [], length, get_or, Some, slice_get, IsTrue}
 use Rattle.cb_model.specs.declared.Tree.{Tree}
 use Rattle.cb_model.specs.declared.Goal.TheVariants as goal
 use Rattle.cb_model.specs.declared.When.{When}
@@ -8,7 +8,7 @@ use Rattle.cb_model.specs.Values.{Sorts}
 use Rattle.cb_model.specs.Equations.{Item}
 use Rattle.cb_model.specs.Program.{Program}
 use Rattle.cb_model.specs.Derivation.{Ready, is_demon, words_of}
-use Rattle.cb_sorts.specs.Source.{Source}
+use Rattle.cb_sorts.specs.Source.{Source, program_of}
 use Rattle.cb_sorts.specs.Asked.{Asked}
 use Rattle.cb_sorts.specs.OverFile.{asked_program}
 use Rattle.cb_heap.specs.declared.Ref.{Ref}
@@ -41,7 +41,25 @@ TellsReady s p pred refs b =
     (a : Asked) (es : List Item) (xs : List Tree) → IsAsked s (asked_program p a []) es pred refs xs →
     IsTrue b ↔ Ready (asked_program p a []) es (goal.Call pred xs)
 
+-- the delay words of a name of the file
+abbrev pub named_words : Source → ℕ → List When
+named_words p pred = words_of (program_of p []) pred
+
+-- one of so many arguments has a word to wait for
+abbrev pub HasWord : Source → ℕ → ℕ → Type 0
+HasWord p pred count = (k : ℕ) × (k < count) × (get_or (named_words p pred) k when.Any ≢ when.Any)
+
+-- each call of the name with at most so many arguments is ready, whatever query is asked
+abbrev pub RunsAtOnce : Source → ℕ → ℕ → Type 0
+RunsAtOnce p pred count =
+    (a : Asked) (es : List Item) (xs : List Tree) → IsPlainCall (asked_program p a []) pred xs → length xs ≤ count →
+    Ready (asked_program p a []) es (goal.Call pred xs)
+
 -- at each of the first places, so many as a number can tell, the word holds of the cell there; where there is no word,
 -- nothing is asked
 abbrev pub AllHold : Sorts → Seen → List When → List Ref → Type 0
 AllHold t s words refs = (k : ℕ) (r : Ref) → k < 2 ^ 32 - 1 → slice_get refs k ≡ Some r → HoldsAt t s (get_or words k when.Any) r.0
+
+-- it tells whether the words of a name's delay hold of these cells
+abbrev pub TellsHeld : Sorts → Seen → Source → ℕ → List Ref → Bool → Type 0
+TellsHeld t s p pred refs b = IsTrue b ↔ AllHold t s (named_words p pred) refs

@@ -1,10 +1,8 @@
 //! Which of the calls that were parked are ready.
 
 ghost use Rattle.std.specs.Prelude.{◌≡◌, ◌↔◌, ℕ, ◌+◌, ◌-◌, ◌^◌, ◌≤◌, length, min, Ok, Err, IfOk, OnOk, IsTrue};
-ghost use Rattle.cb_model.specs.Bits.{Parts};
-ghost use Rattle.cb_wake.specs.Waits.{waiting};
 ghost use Rattle.cb_wake.specs.Moments.{KeepsMoments};
-ghost use Rattle.cb_ready.specs.Asking.{IsAskable, IsReadyAt, IsSameAsking, asking};
+ghost use Rattle.cb_ready.specs.Asking.{IsAskable, TakesReady, asking};
 
 use crate::Parked;
 use crate::delayed::all_hold;
@@ -109,7 +107,7 @@ pub fn take_woken(
     waits: &mut Waiting,
 ) -> Result<Vec<usize>, Stop>
     requires { IsAskable state.now program.now query.now parked.now }
-    ensures parted { IfOk result (λ ks. Parts (IsReadyAt (asking state.now program.now query.now parked.now)) (waiting waits.old) ks.items (waiting waits.new)) }
+    ensures parted { IfOk result (λ ks. TakesReady state.now program.now query.now parked.now waits.old ks.items waits.new) }
     ensures parked { length waits.new.still ≡ length waits.old.still }
     ensures moments { KeepsMoments waits.old waits.new }
     ensures memory { result ≡ Err Stop.Nodes → ⊥ }

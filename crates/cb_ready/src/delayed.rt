@@ -1,18 +1,10 @@
 //! Whether a call is ready.
 
-ghost use Rattle.std.specs.Prelude.{◌≡◌, ◌≢◌, ℕ, ◌-◌, ◌^◌, ◌<◌, ◌≤◌, ◌↔◌, true, false, List, [], length, get_or, min, IfOk, IsTrue};
-ghost use Rattle.cb_model.specs.declared.Tree.{Tree};
-ghost use Rattle.cb_model.specs.declared.Goal.TheVariants as goal;
-ghost use Rattle.cb_model.specs.declared.When.TheVariants as when;
+ghost use Rattle.std.specs.Prelude.{◌≡◌, ◌-◌, ◌^◌, ◌<◌, true, false, length, min, IfOk};
 ghost use Rattle.cb_model.specs.Bits.{Each};
-ghost use Rattle.cb_model.specs.Equations.{Item};
-ghost use Rattle.cb_model.specs.Derivation.{Ready, words_of};
-ghost use Rattle.cb_sorts.specs.Source.{program_of};
-ghost use Rattle.cb_sorts.specs.Asked.{Asked};
-ghost use Rattle.cb_sorts.specs.OverFile.{asked_program};
 ghost use Rattle.cb_model.specs.Values.{Sorts};
 ghost use Rattle.cb_unify.specs.State.{FitsTable, IsState};
-ghost use Rattle.cb_ready.specs.Ready.{AllHold, IsPlainCall, TellsReady};
+ghost use Rattle.cb_ready.specs.Ready.{HasWord, RunsAtOnce, TellsHeld, TellsReady};
 
 use cb_heap::Ref;
 use cb_model::When;
@@ -24,8 +16,8 @@ use std::alloc::AllocError;
 /// alone, and takes no memory.
 pub fn is_delayed(program: &Program<'_>, pred: u32, count: usize) -> bool
     requires name { pred < length program.now.names }
-    ensures yes { result ≡ true → (k : ℕ) × (k < count) × (get_or (words_of (program_of program.now []) pred) k when.Any ≢ when.Any) }
-    ensures no { result ≡ false → (a : Asked) (es : List Item) (xs : List Tree) → IsPlainCall (asked_program program.now a []) pred xs → length xs ≤ count → Ready (asked_program program.now a []) es (goal.Call pred xs) }
+    ensures yes { result ≡ true → HasWord program.now pred count }
+    ensures no { result ≡ false → RunsAtOnce program.now pred count }
 {
     for place in 0..places(count) {
         match program.when(pred, place) {
@@ -62,7 +54,7 @@ pub(crate) fn all_hold(
     requires state { IsState state.now }
     requires name { pred < length program.now.names }
     requires there { Each (λ r. r.0 < length state.now.heap.sorts) args.now }
-    ensures { (t : Sorts) → FitsTable t state.now → IfOk result (λ b. IsTrue b ↔ AllHold t state.now (words_of (program_of program.now []) pred) args.now) }
+    ensures { (t : Sorts) → FitsTable t state.now → IfOk result (TellsHeld t state.now program.now pred args.now) }
 {
     for place in 0..places(args.len()) {
         match state.holds(program.when(pred, place), args[place as usize]) {

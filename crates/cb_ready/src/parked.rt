@@ -1,12 +1,8 @@
 //! Calls that are parked.
 
-ghost use Rattle.std.specs.Prelude.{◌≡◌, suc, ◌+◌, ◌<◌, List, length, IfOk};
-ghost use Rattle.cb_model.specs.declared.Tree.{Tree};
-ghost use Rattle.cb_model.specs.declared.Tree.TheVariants as tree;
-ghost use Rattle.cb_model.specs.Values.{Sorts};
-ghost use Rattle.cb_unify.specs.State.{FitsTable, IsState};
-ghost use Rattle.cb_items.specs.Standing.{Stands};
-ghost use Rattle.cb_ready.specs.Parked.{AreFrom, IsParked};
+ghost use Rattle.std.specs.Prelude.{◌≡◌, suc, ◌+◌, ◌<◌, length, IfOk};
+ghost use Rattle.cb_unify.specs.State.{IsState};
+ghost use Rattle.cb_ready.specs.Parked.{AreFrom, ParksCall};
 
 use cb_heap::{Heap, Ref, Stored};
 use cb_unify::State;
@@ -38,7 +34,7 @@ impl Parked {
         requires state { IsState state.now }
         requires there { call.0 < length state.now.heap.sorts }
         ensures call { IfOk result (λ p. (p.pred ≡ pred) × (p.call ≡ call)) }
-        ensures parked { IfOk result (λ p. (t : Sorts) (xs : List Tree) → FitsTable t state.now → Stands t state.now call.0 (tree.Node pred xs) → IsParked t state.now p xs) }
+        ensures parked { IfOk result (ParksCall state.now pred call.0) }
     {
         let heap = state.heap();
         let last = heap.last(call);

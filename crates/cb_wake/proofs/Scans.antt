@@ -1,13 +1,12 @@
 -- Scans of waiting goals.
-use Rattle.std.proofs.Common.{◌≡◌, ℕ, zero, suc, ◌+◌, ◌<◌, ◌≤◌, inl, inr, Bool, true, false, List, [], ◌∷◌, ◌++◌, length, take, drop, get_or, Some, None, refl, sym, ap, subst, ◌∙◌, arith}
+use Rattle.std.proofs.Common.{◌≡◌, ℕ, zero, suc, ◌+◌, ◌<◌, ◌≤◌, inl, inr, Bool, true, false, List, [], ◌∷◌, ◌++◌, length, drop, get_or, Some, None, refl, sym, ap, subst, ◌∙◌, arith}
 use Rattle.std.specs.Prelude.{slice_get, slice_set}
 use Rattle.std.proofs.lemmas.Option.{slice_get-get_or, slice_get_within}
 use Rattle.std.proofs.lemmas.Bool.{cases_lt}
-use Rattle.std.proofs.lemmas.List.{length-set, take_all}
-use Rattle.std.proofs.Math.Seq.{take-length}
+use Rattle.std.proofs.lemmas.List.{length-set}
 use Rattle.std.proofs.Math.Numerals.{add-one}
 use Rattle.cb_model.specs.Bits.{Parts, none, yes_here, no_here, Each}
-use Rattle.cb_wake.specs.Waits.{IsScanned, IsTaken, NoneReady, Waits, numbers_of, waiting, without}
+use Rattle.cb_wake.specs.Waits.{IsScanned, IsTaken, NoneReady, Waits, numbers_of, waiting, waiting_from, without}
 use Rattle.cb_wake.specs.Moments.{KeepsMoments}
 use Rattle.cb_wake.proofs.Back.{keeps-self, keeps-then, keeps-taken}
 
@@ -131,29 +130,6 @@ fewer m zero (false ∷ ys) s = absurd (cc)
 fewer m (suc k) (true ∷ ys) s = let h = fewer (suc m) k ys s in omega arith
 fewer m (suc k) (false ∷ ys) s = fewer (suc m) k ys s
 
--- ---- how many tests a scan makes
-
-pub few-more : (m k n : ℕ) (xs : List Bool) → n ≡ k + 1 → slice_get xs k ≡ Some true → length (numbers_of m (take n xs)) ≡ length (numbers_of m (take k xs)) + 1
-few-more m k zero xs e s = absurd (omega arith)
-few-more m k (suc n) [] e s = absurd (cc)
-few-more m zero (suc n) (true ∷ xs) e s = let h : n ≡ 0 = omega arith in subst (λ z. length (numbers_of m (true ∷ take z xs)) ≡ 1) (sym h) refl
-few-more m zero (suc n) (false ∷ xs) e s = absurd (cc)
-few-more m (suc k) (suc n) (true ∷ xs) e s = let h = few-more (suc m) k n xs (omega arith) s in omega arith
-few-more m (suc k) (suc n) (false ∷ xs) e s = few-more (suc m) k n xs (omega arith) s
-
-pub few-less : (m k n : ℕ) (xs : List Bool) → k ≤ n → length (numbers_of m (take k xs)) ≤ length (numbers_of m (take n xs))
-few-less m zero n xs l = omega arith
-few-less m (suc k) zero xs l = absurd (omega arith)
-few-less m (suc k) (suc n) [] l = omega arith
-few-less m (suc k) (suc n) (true ∷ xs) l = let h = few-less (suc m) k n xs (omega arith) in omega arith
-few-less m (suc k) (suc n) (false ∷ xs) l = few-less (suc m) k n xs (omega arith)
-
-pub few-all : (k : ℕ) (xs : List Bool) → length (numbers_of 0 (take k xs)) ≤ length (numbers_of 0 xs)
-few-all k xs = elim (cases_lt (length xs) k) [
-  | inl less ↦ let e = ap (λ (ys : List Bool). length (numbers_of 0 ys)) (take_all k xs (omega (arith, less))) in omega (arith, e)
-  | inr more ↦ let h = few-less 0 k (length xs) xs more in let e = ap (λ (ys : List Bool). length (numbers_of 0 ys)) (take-length xs) in omega (arith, h, e)
-]
-
 -- ---- the waiting goals one by one
 
 pub next-is : (k n m : ℕ) (xs : List Bool) → n ≡ k + 1 → slice_get xs k ≡ Some true → numbers_of m (drop k xs) ≡ m ∷ numbers_of (m + 1) (drop n xs)
@@ -169,6 +145,26 @@ passed-is k (suc n) m [] e l s = absurd (omega arith)
 passed-is zero (suc n) m (false ∷ xs) e l s = let h : n ≡ 0 = omega arith in subst (λ z. numbers_of m (false ∷ xs) ≡ numbers_of (m + 1) (drop z xs)) (sym h) (ap (λ z. numbers_of z xs) (sym (add-one m)))
 passed-is zero (suc n) m (true ∷ xs) e l s = absurd (cc)
 passed-is (suc k) (suc n) m (x ∷ xs) e l s = passed-is k n m xs (omega arith) (omega arith) s
+
+-- ---- how many tests a scan makes
+
+-- those from this number on are this one and those behind it
+pub one-more : (k : ℕ) (xs : List Bool) → slice_get xs k ≡ Some true → length (waiting_from k xs) ≡ suc (length (waiting_from (k + 1) xs))
+one-more k xs s = ap length (next-is k (k + 1) k xs refl s)
+
+pub none-more : (k : ℕ) (xs : List Bool) → k < length xs → get_or xs k false ≡ false → length (waiting_from k xs) ≡ length (waiting_from (k + 1) xs)
+none-more k xs l s = ap length (passed-is k (k + 1) k xs refl l s)
+
+drop-set : (k n : ℕ) (xs : List Bool) → k < n → drop n (slice_set xs k false) ≡ drop n xs
+drop-set k zero xs l = absurd (omega arith)
+drop-set k (suc n) [] l = refl
+drop-set zero (suc n) (x ∷ xs) l = refl
+drop-set (suc k) (suc n) (x ∷ xs) l = drop-set k n xs (omega arith)
+
+-- behind the goal that was taken all is as before
+pub behind-taken : (Q : ℕ → Type 0) (now new : Waits) (k : ℕ) → IsTaken Q now new (Some k) → length (waiting_from (k + 1) new.still) ≡ length (waiting_from (k + 1) now.still)
+behind-taken Q now new k t =
+    ap (λ (u : Waits). length (waiting_from (k + 1) u.still)) t.0 ∙ ap (λ (ys : List Bool). length (numbers_of (k + 1) ys)) (drop-set k (k + 1) now.still (omega arith))
 
 -- ---- all ready goals of the waiting ones
 

@@ -1,5 +1,6 @@
 -- Waiting goals by number.
-use Rattle.std.specs.Prelude.{◌≡◌, ℕ, suc, ◌<◌, Bool, true, false, List, [], ◌∷◌, ◌++◌, Option, Some, None, slice_get, slice_set}
+use Rattle.std.specs.Prelude.{◌≡◌, ℕ, suc, ◌+◌, ◌<◌, ◌≤◌, Bool, true, false, List, [], ◌∷◌, ◌++◌, length, drop, Option, Some, None, Result, Ok, slice_get, slice_set}
+use Rattle.cb_dd.specs.declared.Stop.{Stop}
 
 -- whether each parked goal still waits, by number, and the goals that were taken, in order
 pub record Waits : Type 0 where
@@ -19,6 +20,19 @@ numbers_of k (false ∷ xs) = numbers_of (suc k) xs
 -- the goals that wait, by number
 abbrev pub waiting : Waits → List ℕ
 waiting w = numbers_of 0 w.still
+
+-- the goals that wait, from this number on
+abbrev pub waiting_from : ℕ → List Bool → List ℕ
+waiting_from k xs = numbers_of k (drop k xs)
+
+-- those that a scan for a ready goal didn't come to
+abbrev pub unasked : List Bool → Result (Option ℕ) Stop → List ℕ
+unasked xs (Ok (Some k)) = waiting_from (k + 1) xs
+unasked xs _ = []
+
+-- from the first count of tests to the second, each goal from this number on that the scan came to was asked about at most once
+abbrev pub AsksOnce : ℕ → ℕ → ℕ → List Bool → Result (Option ℕ) Stop → Type 0
+AsksOnce before after from xs r = after + length (unasked xs r) ≤ before + length (waiting_from from xs)
 
 -- no goal that still waits is ready
 abbrev pub NoneReady : (ℕ → Type 0) → List Bool → Type 0

@@ -5,7 +5,7 @@
 ghost use Rattle.std.specs.Prelude.{◌≡◌, ◌↔◌, ℕ, ◌+◌, ◌-◌, ◌^◌, ◌<◌, ◌≤◌, true, Some, min, [], ◌∷◌, ◌++◌, length, take, drop, Ok, Err, IfOk, IfSome, OnOk, OnErr, IsTrue, slice_get};
 ghost use Rattle.cb_model.specs.Bits.{Parts};
 ghost use Rattle.cb_model.specs.Outside.{Rose};
-ghost use Rattle.cb_wake.specs.Waits.{IsLeast, IsScanned, IsTaken, Waits, no_goals, numbers_of, waiting};
+ghost use Rattle.cb_wake.specs.Waits.{AsksOnce, IsLeast, IsScanned, IsTaken, Waits, no_goals, waiting};
 ghost use Rattle.cb_wake.specs.Moments.{IsMoment, KeepsMoments, moment_of, put_back, reverted};
 
 use cb_dd::Stop;
@@ -150,7 +150,7 @@ impl Waiting {
         ensures moments { KeepsMoments self.old self.new }
         ensures refused { OnErr result (self.new ≡ self.old) }
         ensures kept { T.keeps tester.old tester.new }
-        ensures tests { T.tests tester.new ≤ T.tests tester.old + length (waiting self.old) }
+        ensures tests { AsksOnce (T.tests tester.old) (T.tests tester.new) from self.old.still result }
         ensures stops_stay { T.stops tester.old ≤ T.stops tester.new }
         ensures nodes { result ≡ Err Stop.Nodes → Rose (T.stops tester.old) (T.stops tester.new) × T.may_stop tester.old }
     {
@@ -212,7 +212,7 @@ fn least_ready<T: Tester>(
     requires scanned { IsScanned (T.is_ready tester.old) still.now from }
     ensures some { IfOk result (λ r. IsLeast (T.is_ready tester.old) still.now r) }
     ensures kept { T.keeps tester.old tester.new }
-    ensures tests { T.tests tester.new ≤ T.tests tester.old + length (numbers_of 0 still.now) }
+    ensures tests { AsksOnce (T.tests tester.old) (T.tests tester.new) from still.now result }
     ensures stops_stay { T.stops tester.old ≤ T.stops tester.new }
     ensures nodes { result ≡ Err Stop.Nodes → Rose (T.stops tester.old) (T.stops tester.new) × T.may_stop tester.old }
 {
@@ -254,6 +254,7 @@ pub fn take_all<T: Tester>(
     ensures parked { length waits.new.still ≡ length waits.old.still }
     ensures moments { KeepsMoments waits.old waits.new }
     ensures kept { T.keeps tester.old tester.new }
+    ensures tests { T.tests tester.new ≤ T.tests tester.old + length (waiting waits.old) }
     ensures stops_stay { T.stops tester.old ≤ T.stops tester.new }
     ensures nodes { result ≡ Err Stop.Nodes → Rose (T.stops tester.old) (T.stops tester.new) × T.may_stop tester.old }
 {

@@ -4,9 +4,9 @@ use Rattle.std.proofs.lemmas.Option.{slice_get-get_or}
 use Rattle.cb_dd.specs.declared.Stop.{Stop}
 use Rattle.cb_heap.specs.declared.Ref.{Ref}
 use Rattle.cb_ready.specs.Parked.{Parked}
-use Rattle.cb_ready.specs.Ready.{AllHold}
+use Rattle.cb_ready.specs.Ready.{AllHold, named_words}
 use Rattle.cb_ready.specs.Asking.{IsReadyAt}
-use Rattle.cb_ready.proofs.Looks.{answer-at, words_at}
+use Rattle.cb_ready.proofs.Looks.{answer-at}
 use Rattle.cb_ready.proofs.asks.AsksTester.ready.Goals.{in-Ok, in-Err}
 use Rattle.cb_ready.proofs.asks.AsksTester.ready.Goals as goal
 
@@ -22,7 +22,7 @@ returns-clause-answer c = elim c.match-all_hold.branch [
       let at : slice_get calls c.args.goal ≡ Some call = slice_get-get_or calls c.args.goal c.index-self-goal.result less in
       subst (λ (o : Result Bool Stop). IfOk o (λ b. IsTrue b ↔ IsReadyAt c.args.self.now c.args.goal)) (sym w.result-is)
       (answer-at s p c.self.inside.query.now calls c.self.inside.tests c.args.self.now c.self.view_is c.self.invariant c.args.goal call at w.in-Ok.ready
-      (λ t fits. subst (λ (d : Parked). IsTrue w.in-Ok.ready ↔ AllHold t s (words_at p d.pred) d.args) c.call.view_is
-      (subst (λ (rs : List Ref). IsTrue w.in-Ok.ready ↔ AllHold t s (words_at p c.call.inside.pred) rs) c.as_slice.ensures.value (w.in-Ok.ensures t fits))))
+      (λ t fits. subst (λ (d : Parked). IsTrue w.in-Ok.ready ↔ AllHold t s (named_words p d.pred) d.args) c.call.view_is
+      (subst (λ (rs : List Ref). IsTrue w.in-Ok.ready ↔ AllHold t s (named_words p c.call.inside.pred) rs) c.as_slice.ensures.value (w.in-Ok.ensures t fits))))
   | in-Err w ↦ subst (λ (o : Result Bool Stop). IfOk o (λ b. IsTrue b ↔ IsReadyAt c.args.self.now c.args.goal)) (sym w.result-is) tt
 ]
